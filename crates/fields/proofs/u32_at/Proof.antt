@@ -1,0 +1,32 @@
+use borrow.Author.Needs.{needs}
+use denote.Ref.{now}
+use native.Mathlib.Omega.{arith}
+use Rattle.fields.proofs.Numbers.{num-past, num-four}
+use Rattle.fields.proofs.u32_at.Statement.{statement}
+use Rattle.fields.proofs.u32_at.Tie as tie
+
+u16-at-requires : tie.Need-u16-at-requires
+u16-at-requires c κs = search needs
+
+add-u16-at : tie.Need-add-u16-at
+add-u16-at c = search needs
+
+u16-at-requires-2 : tie.Need-u16-at-requires-2
+u16-at-requires-2 c κs = search needs
+
+mul-result : tie.Need-mul-result
+mul-result c = search needs
+
+add-result : tie.Need-add-result
+add-result c = search needs
+
+returns : tie.Need-returns
+returns c = let a = c .before .before .before .before .args in omega (arith, num-four (a .at) (now (a .s)))
+
+returns-2 : tie.Need-returns-2
+returns-2 c = let a = c .before .before .args in omega (arith, num-past 4 (a .at) (now (a .s)) (omega arith))
+
+pub u32-at-spec : {M : Type 1} → statement M
+u32-at-spec =
+    tie.close
+    (tie.spec u16-at-requires add-u16-at u16-at-requires-2 mul-result add-result returns returns-2)

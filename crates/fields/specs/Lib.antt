@@ -1,0 +1,2 @@
+-- The definitions that the contracts of `fields` cite.
+pub mod Bytes

@@ -1,0 +1,2 @@
+-- Plan files: definitions that a reader has to believe.
+pub mod PlanFile
