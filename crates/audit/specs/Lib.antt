@@ -1,0 +1,2 @@
+-- The audit: definitions that a reader has to believe.
+pub mod Audit

@@ -1,0 +1,2 @@
+-- The floor: definitions that a reader has to believe.
+pub mod Floor

@@ -1,0 +1,2 @@
+-- The judge: definitions that a reader has to believe.
+pub mod Judge

@@ -1,0 +1,3 @@
+-- Replay: definitions that a reader has to believe, and what the call answers.
+pub mod Replay
+pub mod Answers

@@ -1,0 +1,2 @@
+-- Writing plans: definitions that a reader has to believe.
+pub mod Write
