@@ -1,2 +1,3 @@
 -- Plan files: definitions that a reader has to believe.
 pub mod PlanFile
+pub mod Reading

@@ -1,0 +1,3 @@
+-- Laws of trace files.
+pub mod Places
+pub mod Records
