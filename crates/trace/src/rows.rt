@@ -23,7 +23,7 @@ impl Record {
 
 // Where record t begins, or the end where it begins past that.
 pub fn record_at(trace: &[u8], t: usize) -> usize
-    ensures { λ r. do ⌜ (min r (← ⟦trace.len()⟧ .entry) ≡ min (recordAt (now (trace .entry)) t) (← ⟦trace.len()⟧ .entry)) × (r ≤ (← ⟦trace.len()⟧ .entry) + 4) ⌝ }
+    ensures { λ r. ⌜ (min r (length (now (trace .entry))) ≡ min (recordAt (now (trace .entry)) t) (length (now (trace .entry)))) × (r ≤ length (now (trace .entry)) + 4) ⌝ }
 {
     if trace.len() / Record::SIZE <= t {
         trace.len()
@@ -59,20 +59,22 @@ pub fn marked(trace: &[u8]) -> bool
 pub fn head(trace: &[u8]) -> Outcome
     ensures { λ r. ⌜ next (said r) (recordsTried (requestsAt (now (trace .entry))) 0 (now (trace .entry))) ≡ traceTried (now (trace .entry)) ⌝ }
 {
+    let w = crate::slots(trace);
+    let n = crate::requests(trace);
+    let price = crate::fill(trace);
     if trace.len() < crate::Header::SIZE {
         return refused(1, 0);
     }
     if !marked(trace) {
         return refused(2, 0);
     }
-    if Slots::MAX < crate::slots(trace) {
+    if Slots::MAX < w {
         return refused(3, 0);
     }
-    let n = crate::requests(trace);
     if Requests::MAX < n {
         return refused(4, 0);
     }
-    if FillPrice::MAX < crate::fill(trace) {
+    if FillPrice::MAX < price {
         return refused(5, 0);
     }
     if trace.len() != crate::Header::SIZE + Record::SIZE * n {

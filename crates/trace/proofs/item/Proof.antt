@@ -1,7 +1,6 @@
 use borrow.Author.Needs.{needs}
 use denote.Ref.{now}
 use mathlib.Core.Path.{_∙_}
-use Prim.Native.Nat.{_+_}
 use native.Mathlib.Omega.{arith}
 use Rattle.trace.specs.TraceFile.{recordAt}
 use Rattle.trace.proofs.Places.{num-level}

@@ -4,6 +4,15 @@ use Rattle.trace.specs.TraceFile.{traceTried}
 use Rattle.trace.proofs.rows.head.Statement.{statement}
 use Rattle.trace.proofs.rows.head.Tie as tie
 
+slots-requires : tie.Need-slots-requires
+slots-requires c κs = search needs
+
+requests-requires : tie.Need-requests-requires
+requests-requires c κs = search needs
+
+fill-requires : tie.Need-fill-requires
+fill-requires c κs = search needs
+
 refused-requires : tie.Need-refused-requires
 refused-requires c κs = search needs
 
@@ -23,21 +32,18 @@ returns-2 c =
     let e1 = c .before .before .before in
     simp (c .refused2 .ensures, le-ltb _ _ (e1 .if1 .left), ← c .before .before .marked .ensures, c .before .if2 .taken)
 
-slots-requires : tie.Need-slots-requires
-slots-requires c κs = search needs
-
 refused-requires-3 : tie.Need-refused-requires-3
 refused-requires-3 c κs = search needs
 
 returns-3 : tie.Need-returns-3
 unfolding traceTried
 returns-3 c =
-    let e2 = c .before .before .before in
+    let e2 = c .before .before in
     let e1 = e2 .before .before in
-    simp (c .refused3 .ensures, le-ltb _ _ (e1 .if1 .left), ← e2 .before .marked .ensures, e2 .if2 .left, ← c .before .before .slots .ensures .0, lt-ltb _ _ (c .before .if3 .taken))
-
-requests-requires : tie.Need-requests-requires
-requests-requires c κs = search needs
+    let p = e1 .before in
+    let q = p .before in
+    let v = q .before in
+    simp (c .refused3 .ensures, le-ltb _ _ (e1 .if1 .left), ← e2 .before .marked .ensures, e2 .if2 .left, ← v .slots .ensures .0, lt-ltb _ _ (c .before .if3 .taken))
 
 refused-requires-4 : tie.Need-refused-requires-4
 refused-requires-4 c κs = search needs
@@ -45,13 +51,13 @@ refused-requires-4 c κs = search needs
 returns-4 : tie.Need-returns-4
 unfolding traceTried
 returns-4 c =
-    let e3 = c .before .before .before in
-    let e2 = e3 .before .before in
+    let e3 = c .before .before in
+    let e2 = e3 .before in
     let e1 = e2 .before .before in
-    simp (c .refused4 .ensures, le-ltb _ _ (e1 .if1 .left), ← e2 .before .marked .ensures, e2 .if2 .left, ← e3 .before .slots .ensures .0, le-ltb _ _ (e3 .if3 .left), ← c .before .before .requests .ensures .0, lt-ltb _ _ (c .before .if4 .taken))
-
-fill-requires : tie.Need-fill-requires
-fill-requires c κs = search needs
+    let p = e1 .before in
+    let q = p .before in
+    let v = q .before in
+    simp (c .refused4 .ensures, le-ltb _ _ (e1 .if1 .left), ← e2 .before .marked .ensures, e2 .if2 .left, ← v .slots .ensures .0, le-ltb _ _ (e3 .if3 .left), ← q .requests .ensures .0, lt-ltb _ _ (c .before .if4 .taken))
 
 refused-requires-5 : tie.Need-refused-requires-5
 refused-requires-5 c κs = search needs
@@ -59,11 +65,14 @@ refused-requires-5 c κs = search needs
 returns-5 : tie.Need-returns-5
 unfolding traceTried
 returns-5 c =
-    let e4 = c .before .before .before in
-    let e3 = e4 .before .before in
-    let e2 = e3 .before .before in
+    let e4 = c .before .before in
+    let e3 = e4 .before in
+    let e2 = e3 .before in
     let e1 = e2 .before .before in
-    simp (c .refused5 .ensures, le-ltb _ _ (e1 .if1 .left), ← e2 .before .marked .ensures, e2 .if2 .left, ← e3 .before .slots .ensures .0, le-ltb _ _ (e3 .if3 .left), ← e4 .before .requests .ensures .0, le-ltb _ _ (e4 .if4 .left), ← c .before .before .fill .ensures .0, lt-ltb _ _ (c .before .if5 .taken))
+    let p = e1 .before in
+    let q = p .before in
+    let v = q .before in
+    simp (c .refused5 .ensures, le-ltb _ _ (e1 .if1 .left), ← e2 .before .marked .ensures, e2 .if2 .left, ← v .slots .ensures .0, le-ltb _ _ (e3 .if3 .left), ← q .requests .ensures .0, le-ltb _ _ (e4 .if4 .left), ← p .fill .ensures .0, lt-ltb _ _ (c .before .if5 .taken))
 
 mul-if6 : tie.Need-mul-if6
 mul-if6 c = search needs
@@ -78,38 +87,44 @@ returns-6 : tie.Need-returns-6
 unfolding traceTried
 returns-6 c =
     let e5 = c .before .before in
-    let e4 = e5 .before .before in
-    let e3 = e4 .before .before in
-    let e2 = e3 .before .before in
+    let e4 = e5 .before in
+    let e3 = e4 .before in
+    let e2 = e3 .before in
     let e1 = e2 .before .before in
-    simp (c .refused6 .ensures, le-ltb _ _ (e1 .if1 .left), ← e2 .before .marked .ensures, e2 .if2 .left, ← e3 .before .slots .ensures .0, le-ltb _ _ (e3 .if3 .left), ← e4 .before .requests .ensures .0, le-ltb _ _ (e4 .if4 .left), ← e5 .before .fill .ensures .0, le-ltb _ _ (e5 .if5 .left), ne-eqb _ _ (c .before .if6 .taken))
+    let p = e1 .before in
+    let q = p .before in
+    let v = q .before in
+    simp (c .refused6 .ensures, le-ltb _ _ (e1 .if1 .left), ← e2 .before .marked .ensures, e2 .if2 .left, ← v .slots .ensures .0, le-ltb _ _ (e3 .if3 .left), ← q .requests .ensures .0, le-ltb _ _ (e4 .if4 .left), ← p .fill .ensures .0, le-ltb _ _ (e5 .if5 .left), ne-eqb _ _ (c .before .if6 .taken))
 
 returns-7 : tie.Need-returns-7
 unfolding traceTried
 returns-7 c =
     let e5 = c .before in
-    let e4 = e5 .before .before in
-    let e3 = e4 .before .before in
-    let e2 = e3 .before .before in
+    let e4 = e5 .before in
+    let e3 = e4 .before in
+    let e2 = e3 .before in
     let e1 = e2 .before .before in
-    simp (le-ltb _ _ (e1 .if1 .left), ← e2 .before .marked .ensures, e2 .if2 .left, ← e3 .before .slots .ensures .0, le-ltb _ _ (e3 .if3 .left), ← e4 .before .requests .ensures .0, le-ltb _ _ (e4 .if4 .left), ← e5 .before .fill .ensures .0, le-ltb _ _ (e5 .if5 .left), eq-eqb _ _ (c .if6 .left))
+    let p = e1 .before in
+    let q = p .before in
+    let v = q .before in
+    simp (le-ltb _ _ (e1 .if1 .left), ← e2 .before .marked .ensures, e2 .if2 .left, ← v .slots .ensures .0, le-ltb _ _ (e3 .if3 .left), ← q .requests .ensures .0, le-ltb _ _ (e4 .if4 .left), ← p .fill .ensures .0, le-ltb _ _ (e5 .if5 .left), eq-eqb _ _ (c .if6 .left))
 
 pub head-spec : {M : Type 1} → statement M
 head-spec =
     tie.close
     (tie.spec
+    slots-requires
+    requests-requires
+    fill-requires
     refused-requires
     returns
     marked-requires
     refused-requires-2
     returns-2
-    slots-requires
     refused-requires-3
     returns-3
-    requests-requires
     refused-requires-4
     returns-4
-    fill-requires
     refused-requires-5
     returns-5
     mul-if6

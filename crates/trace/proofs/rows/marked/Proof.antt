@@ -1,6 +1,5 @@
 use borrow.Author.Needs.{needs}
 use borrow.Author.Tests.{eq-eqb, ne-eqb}
-use mathlib.Core.Path.{sym, _∙_}
 use Rattle.trace.proofs.rows.marked.Statement.{statement}
 use Rattle.trace.proofs.rows.marked.Tie as tie
 

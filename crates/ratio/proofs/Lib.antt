@@ -1,0 +1,2 @@
+-- Laws of the gap ratio.
+pub mod Laws
