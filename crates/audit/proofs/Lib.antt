@@ -1,0 +1,4 @@
+-- The laws of the audit.
+pub mod Parts
+pub mod Answered
+pub mod Laws
