@@ -1,0 +1,7 @@
+#ifndef SECOND_STDDEF_H
+#define SECOND_STDDEF_H
+
+typedef __SIZE_TYPE__ size_t;
+#define NULL ((void *)0)
+
+#endif

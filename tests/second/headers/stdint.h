@@ -1,0 +1,11 @@
+/* The kit's compiler comes without headers; it knows the widths by itself. */
+#ifndef SECOND_STDINT_H
+#define SECOND_STDINT_H
+
+typedef __UINT8_TYPE__ uint8_t;
+typedef __UINT32_TYPE__ uint32_t;
+typedef __UINT64_TYPE__ uint64_t;
+typedef __INT32_TYPE__ int32_t;
+typedef __INT64_TYPE__ int64_t;
+
+#endif
