@@ -1,12 +1,12 @@
 -- From the answers of the calls that an audit makes to its own. Assumes nothing.
-use mathlib.Core.Path.{_≡_, refl, sym, _∙_, ap}
+use mathlib.Core.Path.{_≡_, sym, _∙_, ap}
 use Prim.Native.Nat.{ℕ}
 use mathlib.Core.Bool.{true}
 use mathlib.Core.List.{List}
 use lib.ListN.{length}
 use lib.Dec.{eqb}
 use borrow.Author.Tests.{eq-eqb, ne-eqb}
-use Rattle.model.specs.Refusals.{passes, refusal, Answer, fine, refused, answer}
+use Rattle.model.specs.Refusals.{passes, refusal, fine, refused, answer}
 use Rattle.trace.specs.TraceFile.{requestsAt, traceIn}
 use Rattle.plan.specs.PlanFile.{statedAt, sectionTried, flagsOf, rentsTried}
 use Rattle.replay.specs.Replay.{flagsTried, Totals, totalsOf, replayTried, replayOf}

@@ -1,15 +1,14 @@
 -- What an audit that passes says: the total is the model's cost of allowed contents; and that it has one answer. Assumes nothing.
-use mathlib.Core.Path.{_≡_, refl, sym, _∙_, ap}
+use mathlib.Core.Path.{_≡_, sym, _∙_, ap}
 use Prim.Native.Nat.{ℕ}
 use native.Mathlib.Omega.{arith}
 use mathlib.Core.Bool.{not}
 use mathlib.Core.List.{List}
-use lib.ListN.{length, getD}
+use lib.ListN.{length}
 use lib.Dec.{eqb}
 use borrow.Author.Tests.{eqb-true, not-false}
-use Rattle.model.specs.Model.{Contents, Allowed, cost}
-use Rattle.model.specs.Numbers.{maxRent}
-use Rattle.model.specs.Refusals.{passes, row, Answer, fine, refused}
+use Rattle.model.specs.Model.{Allowed, cost}
+use Rattle.model.specs.Refusals.{passes, row, Answer, fine}
 use Rattle.trace.specs.TraceFile.{requestsAt, traceTried, traceIn}
 use Rattle.trace.proofs.Sound.{row-passes}
 use Rattle.plan.specs.PlanFile.{statedAt, sectionTried, rentsTried}

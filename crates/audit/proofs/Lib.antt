@@ -2,3 +2,4 @@
 pub mod Parts
 pub mod Answered
 pub mod Laws
+pub mod Example

@@ -1,16 +1,16 @@
 -- The parts of a plan that passes rows 1 to 12: as many flags and rents as the trace has requests. Assumes nothing.
-use mathlib.Core.Path.{_≡_, refl, sym, _∙_, ap}
-use Prim.Native.Nat.{ℕ, zero, suc, _+_, _*_, _/_, _≤_, min}
+use mathlib.Core.Path.{_≡_, refl, ap}
+use Prim.Native.Nat.{ℕ, zero, suc, _*_, _/_, _≤_}
 use native.Mathlib.Omega.{arith}
 use mathlib.Core.List.{List, [], _∷_}
-use lib.ListN.{length, take, drop, length-take, length-drop}
+use lib.ListN.{length, take, length-take, length-drop}
 use Rattle.fields.specs.Bytes.{putFront}
 use Rattle.model.specs.Links.{listed}
 use Rattle.model.specs.Numbers.{maxRequests}
 use Rattle.model.specs.Refusals.{passes}
 use Rattle.trace.specs.TraceFile.{requestsAt, traceTried}
 use Rattle.trace.proofs.Sound.{sound-trace}
-use Rattle.plan.specs.PlanFile.{shapeOf, flagsPart, rentsPart, rentIn, planTried, sectionTried, flagsOf, rentsOf}
+use Rattle.plan.specs.PlanFile.{shapeOf, rentsPart, rentIn, planTried, sectionTried, flagsOf, rentsOf}
 use Rattle.plan.specs.Reading.{rentsInto}
 use Rattle.plan.proofs.Sections.{next-passes, section-sound}
 use Rattle.plan.proofs.Reading.{length-put}

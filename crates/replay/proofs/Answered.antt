@@ -1,11 +1,11 @@
 -- From the answers of the calls that a replay makes to its own. Assumes nothing.
-use mathlib.Core.Path.{_≡_, refl, sym, _∙_, ap}
+use mathlib.Core.Path.{_≡_, refl, ap}
 use Prim.Native.Nat.{ℕ}
 use native.Mathlib.Omega.{arith}
 use mathlib.Core.List.{List}
 use lib.ListN.{length}
 use borrow.Author.Tests.{eq-eqb, ne-eqb}
-use Rattle.model.specs.Refusals.{Tried, passes, refusal, Answer, fine, refused, answer}
+use Rattle.model.specs.Refusals.{Tried, passes, refusal, fine, refused, answer}
 use Rattle.trace.specs.TraceFile.{requestsAt, traceTried, traceIn}
 use Rattle.trace.specs.Answers.{headerIn, checkOf}
 use Rattle.trace.specs.declared.Header.{Header}

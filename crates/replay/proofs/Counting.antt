@@ -1,27 +1,23 @@
 -- The totals where t requests are behind: what is counted and what is left are the whole. Assumes nothing.
-use mathlib.Core.Path.{_≡_, refl, sym, _∙_, ap, subst}
+use mathlib.Core.Path.{_≡_, sym, _∙_, ap, subst}
 use Prim.Native.Nat.{ℕ, suc, _+_, _≤_, _<_}
 use native.Mathlib.Numerals.{add-one}
 use native.Mathlib.Omega.{arith}
-use mathlib.Core.Bool.{Bool, true, false, cond}
+use mathlib.Core.Bool.{Bool, false, cond}
 use mathlib.Core.List.{List, [], _∷_}
-use lib.ListN.{length, getD, drop, drop-of-length-le}
+use lib.ListN.{length, drop, drop-of-length-le}
 use lib.Seq.{drop-cons}
 use lib.Dec.{eqb}
 use Rattle.model.specs.Model.{Rules, Request, Trace, Contents, misses, fills, strikes, charge, sumFrom, cost, count}
 use Rattle.model.specs.Plans.{requestAt}
-use Rattle.model.specs.Numbers.{maxRequests, maxPlanCost}
 use Rattle.model.proofs.Bounds.{no-plan-above}
 use Rattle.model.proofs.Sums.{split}
 use Rattle.trace.specs.TraceFile.{slotsAt, requestsAt, fillAt, itemAt, kindAt, costAt, rulesIn, requestIn, traceIn}
 use Rattle.trace.proofs.Sound.{reqs-length, req-at, trace-within}
 use Rattle.replay.specs.Replay.{Totals, totalsOf, named}
 use Rattle.replay.specs.Linked.{flagAt, heldBy, Backward, Adds, paid, plus}
+use Rattle.replay.proofs.Steps.{none}
 use Rattle.replay.proofs.Linked.{held-before, held-after}
-
--- what nothing looks at, past the last request
-abbrev none : Request
-none = record { write = false; item = 0; cost = 0 }
 
 -- one more request of a sum
 pub sum-step : (f : Request → Bool → Bool → ℕ) (t : ℕ) (rs : List Request) (S : Contents) → t < length rs

@@ -1,23 +1,23 @@
 -- What a replay that passes says: sound flags, allowed contents, totals within the limits; and that it has one answer. Assumes nothing.
-use mathlib.Core.Path.{_≡_, refl, sym, _∙_, ap}
-use Prim.Native.Nat.{ℕ, zero, suc, _+_, _≤_, _<_}
+use mathlib.Core.Path.{_≡_, refl, sym, ap}
+use Prim.Native.Nat.{ℕ, suc, _+_, _≤_, _<_}
 use native.Mathlib.Omega.{arith}
 use mathlib.Core.Bool.{Bool, true, false, _&&_, not, false≢true}
 use mathlib.Core.List.{List, [], _∷_}
-use lib.ListN.{length, drop}
+use lib.ListN.{length}
 use lib.Dec.{eqb, ltb}
 use borrow.Author.Tests.{ltb-false, le-ltb, eqb-true, not-false}
 use native.Mathlib.Decide.{decLt}
-use Rattle.model.specs.Model.{Rules, Request, Trace, Contents, Allowed, items, misses, fills, strikes, cost, count}
+use Rattle.model.specs.Model.{Rules, Request, Trace, Contents, Allowed, items, misses, fills, strikes, count}
 use Rattle.model.specs.Plans.{Flags, flagsIn, contents, mayFlag, FlagsFrom, occupancy, SoundFlags}
 use Rattle.model.specs.Numbers.{maxRequests, maxPlanCost}
-use Rattle.model.specs.Refusals.{Tried, passes, refusal, row, next, Answer, fine, refused, answer}
-use Rattle.model.proofs.Sums.{split, sum-zero}
-use Rattle.model.proofs.Plans.{drop-head, flags-name-allowed}
+use Rattle.model.specs.Refusals.{Tried, passes, refusal, next, Answer, answer}
+use Rattle.model.proofs.Sums.{sum-zero}
+use Rattle.model.proofs.Plans.{flags-name-allowed}
 use Rattle.model.proofs.Bounds.{no-plan-above}
 use Rattle.trace.specs.TraceFile.{requestsAt, traceTried, traceIn}
 use Rattle.trace.proofs.Sound.{row-passes, sound-trace, trace-within, reqs-length}
-use Rattle.replay.specs.Replay.{valuesTried, standsTried, roomTried, named, flagsTried, countTried, Totals, totalsOf, replayTried, replayOf}
+use Rattle.replay.specs.Replay.{valuesTried, standsTried, roomTried, named, flagsTried, countTried, Totals, totalsOf, replayTried}
 use Rattle.replay.specs.Answers.{totalsIn, said}
 use Rattle.replay.specs.declared.Totals as code
 use Rattle.replay.specs.declared.Replayed.{Replayed}

@@ -2,14 +2,13 @@
 use mathlib.Core.Path.{_≡_, refl, sym, _∙_, ap}
 use Prim.Native.Nat.{ℕ, suc, _≤_, _<_}
 use native.Mathlib.Omega.{arith}
-use mathlib.Core.Bool.{Bool, true, false, cond, _||_, _&&_, not}
+use mathlib.Core.Bool.{Bool, true, false, _||_, _&&_, not}
 use mathlib.Core.List.{List}
 use lib.ListN.{length, getD, drop}
-use lib.Dec.{eqb, ltb}
+use lib.Dec.{eqb}
 use borrow.Author.Tests.{eq-eqb, lt-ltb, le-ltb}
 use Rattle.model.specs.Model.{Rules, Request, may}
 use Rattle.model.specs.Plans.{requestAt, flagsIn, contents, mayFlag}
-use Rattle.model.specs.Links.{nextOf, prevOf}
 use Rattle.model.proofs.Links.{held-prev, has-next}
 use Rattle.model.proofs.Sums.{split}
 use Rattle.trace.specs.TraceFile.{requestsAt, kindAt, rulesIn, traceIn}

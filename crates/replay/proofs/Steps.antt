@@ -7,7 +7,6 @@ use mathlib.Core.Bool.{true, false, cond}
 use mathlib.Core.List.{List}
 use lib.ListN.{length, getD, drop, drop-of-length-le}
 use lib.Seq.{drop-cons}
-use lib.Dec.{ltb}
 use borrow.Author.Tests.{lt-ltb, le-ltb}
 use Rattle.model.specs.Model.{Request, items}
 use Rattle.model.specs.Plans.{flagsIn, occupancy}
@@ -21,7 +20,7 @@ use Rattle.replay.specs.Linked.{flagAt, heldBy, strayBy, Backward, Forwa
 use Rattle.replay.proofs.Linked.{held-before, stray-is}
 
 -- what nothing looks at, past the last request
-abbrev none : Request
+abbrev pub none : Request
 none = record { write = false; item = 0; cost = 0 }
 
 -- ---- row 13

@@ -1,5 +1,5 @@
 -- The table of charges, row by row: what a request pays and counts for. Assumes nothing.
-use mathlib.Core.Path.{_≡_, refl, sym}
+use mathlib.Core.Path.{_≡_, sym}
 use Prim.Native.Nat.{ℕ, _+_}
 use mathlib.Core.Bool.{Bool, true, false}
 use Rattle.model.specs.Model.{Rules, Request}

@@ -1,6 +1,7 @@
 // Rows 13, 14 and 15, each over the whole input. Whether an item is held before a request is read off the flag of its previous request.
 ghost use mathlib.Core.Path.{_≡_};
 ghost use Prim.Native.Nat.{_<_};
+ghost use Rattle.model.specs.Numbers.{maxRequests};
 ghost use Rattle.model.specs.Refusals.{said, refusal};
 ghost use mathlib.Core.Bool.{cond};
 ghost use Rattle.trace.specs.TraceFile.{traceIn};
@@ -46,7 +47,7 @@ pub fn flag(flags: &[u8], t: usize) -> bool
 
 // Whether the item of request t is held before it.
 pub fn held(flags: &[u8], prev: &[u16; Requests::MAX], t: usize) -> bool
-    requires { ⌜ t < 1024 ⌝ }
+    requires { ⌜ t < maxRequests ⌝ }
     ensures { λ r. ⌜ r ≡ heldBy (now (flags .entry)) (now (prev .entry)) t ⌝ }
 {
     let p = wide(prev[t]);
@@ -64,7 +65,7 @@ pub fn stray(
     prev: &[u16; Requests::MAX],
     t: usize,
 ) -> bool
-    requires { ⌜ t < 1024 ⌝ }
+    requires { ⌜ t < maxRequests ⌝ }
     ensures { λ r. ⌜ r ≡ strayBy (now (trace .entry)) (now (flags .entry)) (now (next .entry)) (now (prev .entry)) t ⌝ }
 {
     if !flag(flags, t) {

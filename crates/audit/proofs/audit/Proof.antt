@@ -8,13 +8,6 @@ use Rattle.audit.proofs.Answered.{section-off, flags-off, cost-off, ren
 use borrow.Author.Needs.{needs}
 use Rattle.audit.proofs.audit.Statement.{statement}
 use Rattle.audit.proofs.audit.Tie as tie
-use Rattle.audit.proofs.audit.Reads as reads
-use Rattle.audit.proofs.audit.Lts as lts
-use Rattle.audit.proofs.rents.tried.Reads as tried-reads
-use Rattle.plan.proofs.flags.Reads as flags-reads
-use Rattle.plan.proofs.refusal.Reads as refusal-reads
-use Rattle.plan.proofs.stated_cost.Reads as stated-cost-reads
-use Rattle.replay.proofs.replay.Reads as replay-reads
 
 refusal-requires : tie.Need-refusal-requires
 refusal-requires c κs = search needs

@@ -7,12 +7,6 @@ use Rattle.replay.proofs.Answered.{check-passes, filled-forward, trace-
 use borrow.Author.Needs.{needs}
 use Rattle.replay.proofs.replay.Statement.{statement}
 use Rattle.replay.proofs.replay.Tie as tie
-use Rattle.replay.proofs.replay.Reads as reads
-use Rattle.replay.proofs.replay.Lts as lts
-use Rattle.links.proofs.fill.Reads as fill-reads
-use Rattle.replay.proofs.rows.tried.Reads as tried-reads
-use Rattle.replay.proofs.sums.totals.Reads as totals-reads
-use Rattle.trace.proofs.requests.Reads as requests-reads
 
 fill-requires : tie.Need-fill-requires
 fill-requires c κs = search needs

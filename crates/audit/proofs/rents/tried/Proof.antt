@@ -1,17 +1,12 @@
 -- `rents::tried` meets its contract: the rents that are read are the plan's. Assumes nothing.
 use mathlib.Core.Path.{_∙_, ap}
 use lib.ListN.{replicate}
+use Rattle.model.specs.Numbers.{maxRequests}
 use Rattle.plan.specs.PlanFile.{rentsTried}
 use Rattle.audit.proofs.Parts.{rents-room, rents-whole, rents-lent}
 use borrow.Author.Needs.{needs}
 use Rattle.audit.proofs.rents.tried.Statement.{statement}
 use Rattle.audit.proofs.rents.tried.Tie as tie
-use Rattle.audit.proofs.rents.tried.Reads as reads
-use Rattle.audit.proofs.rents.tried.Lts as lts
-use Rattle.plan.proofs.read_rents.Reads as read-rents-reads
-use Rattle.plan.proofs.rents.Reads as rents-reads
-use Rattle.plan.proofs.rents_refusal.Reads as rents-refusal-reads
-use Rattle.trace.proofs.requests.Reads as requests-reads
 
 requests-requires : tie.Need-requests-requires
 requests-requires c κs = search needs
@@ -26,10 +21,10 @@ read-rents-requires : tie.Need-read-rents-requires
 read-rents-requires c κs = search needs
 
 array-share-prefix-rents : tie.Need-array-share-prefix-rents
-array-share-prefix-rents c = rents-room (c .before .before .before .before .before .before .before .args .trace .now) (c .before .before .before .before .before .before .before .args .plan .now) (replicate 1024 0) (c .before .before .before .rents .result .now) _ _ (c .before .before .before .before .before .before .before .pre) (c .before .before .before .before .requests .ensures .0) (c .before .read-rents .ensures) (search needs)
+array-share-prefix-rents c = rents-room (c .before .before .before .before .before .before .before .args .trace .now) (c .before .before .before .before .before .before .before .args .plan .now) (replicate maxRequests 0) (c .before .before .before .rents .result .now) _ _ (c .before .before .before .before .before .before .before .pre) (c .before .before .before .before .requests .ensures .0) (c .before .read-rents .ensures) (search needs)
 
 slice-aggregate-rents-refusal : tie.Need-slice-aggregate-rents-refusal
-slice-aggregate-rents-refusal c = rents-whole (c .before .before .before .before .before .before .before .before .args .trace .now) (c .before .before .before .before .before .before .before .before .args .plan .now) (replicate 1024 0) (c .before .before .before .before .rents .result .now) _ _ (c .before .before .before .before .before .before .before .before .pre) (c .before .before .before .before .before .requests .ensures .0) (c .before .before .read-rents .ensures) (search needs)
+slice-aggregate-rents-refusal c = rents-whole (c .before .before .before .before .before .before .before .before .args .trace .now) (c .before .before .before .before .before .before .before .before .args .plan .now) (replicate maxRequests 0) (c .before .before .before .before .rents .result .now) _ _ (c .before .before .before .before .before .before .before .before .pre) (c .before .before .before .before .before .requests .ensures .0) (c .before .before .read-rents .ensures) (search needs)
 
 rents-refusal-requires : tie.Need-rents-refusal-requires
 rents-refusal-requires c κs = search needs
@@ -37,7 +32,7 @@ rents-refusal-requires c κs = search needs
 returns : tie.Need-returns
 returns c =
     c .rents-refusal .ensures
-    ∙ ap (rentsTried 0) (rents-lent (c .before .before .before .before .before .before .before .before .before .args .trace .now) (c .before .before .before .before .before .before .before .before .before .args .plan .now) (replicate 1024 0) (c .before .before .before .before .before .rents .result .now) _ _ (c .before .before .before .before .before .before .before .before .before .pre) (c .before .before .before .before .before .before .requests .ensures .0) (c .before .before .before .read-rents .ensures) (search needs) (c .before .before .before .before .before .rents .ensures))
+    ∙ ap (rentsTried 0) (rents-lent (c .before .before .before .before .before .before .before .before .before .args .trace .now) (c .before .before .before .before .before .before .before .before .before .args .plan .now) (replicate maxRequests 0) (c .before .before .before .before .before .rents .result .now) _ _ (c .before .before .before .before .before .before .before .before .before .pre) (c .before .before .before .before .before .before .requests .ensures .0) (c .before .before .before .read-rents .ensures) (search needs) (c .before .before .before .before .before .rents .ensures))
 
 pub tried-spec : {M : Type 1} → statement M
 tried-spec =

@@ -3,7 +3,7 @@ use mathlib.Core.Path.{_≡_, refl, sym}
 use Prim.Native.Nat.{_-_}
 use native.Mathlib.Omega.{arith}
 use borrow.Author.Needs.{needs}
-use Rattle.floor.proofs.Passed.{Passed, passed-start, passed-all, at-suc, next-range, due, done, passed-step}
+use Rattle.floor.proofs.Passed.{Passed, passed-start, passed-all, at-suc, next-range, Due, due, Done, done, passed-step}
 use Rattle.floor.proofs.pass.leasts.Statement.{statement}
 use Rattle.floor.proofs.pass.leasts.Tie as tie
 
@@ -62,61 +62,57 @@ slice-aggregate-at-2 c = sym (c .before .before .before .before .before .before 
 at-requires-2 : tie.Need-at-requires-2 Inv-loop μ-loop
 at-requires-2 c κs = search needs
 
+-- what is known once the lists are read
+known : (c : tie.After-at2 Inv-loop μ-loop) → let l = c .before .before .before .before .before .before in
+    Due (l .before .before .before .before .before .pre .0) (at-suc (l .before .loop .inv) (l .loop-test .taken)) refl refl (c .before .before .at .ensures) (c .at2 .ensures)
+known c = let l = c .before .before .before .before .before .before in
+    due (l .before .before .before .before .before .pre .0) (at-suc (l .before .loop .inv) (l .loop-test .taken)) refl refl (c .before .before .at .ensures) (c .at2 .ensures)
+
+-- and once the request has its two prices
+priced : (c : tie.After-from-in Inv-loop μ-loop) → let b = c .before .before in let l = b .before .before .before .before .before .before in
+    Done (l .before .before .before .before .before .pre .0) (at-suc (l .before .loop .inv) (l .loop-test .taken)) refl refl (b .before .before .at .ensures) (b .at2 .ensures) (c .before .from-out .ensures) (c .from-in .ensures)
+priced c = let b = c .before .before in let l = b .before .before .before .before .before .before in
+    done (l .before .before .before .before .before .pre .0) (at-suc (l .before .loop .inv) (l .loop-test .taken)) refl refl (b .before .before .at .ensures) (b .at2 .ensures) (c .before .from-out .ensures) (c .from-in .ensures)
+
 sub-kept : tie.Need-sub-kept Inv-loop μ-loop
-sub-kept c =
-    due (c .before .before .before .before .before .before .before .before .before .before .before .pre .0) (at-suc (c .before .before .before .before .before .before .before .loop .inv) (c .before .before .before .before .before .before .loop-test .taken)) refl refl (c .before .before .at .ensures) (c .at2 .ensures) .below
+sub-kept c = known c .below
 
 from-out-requires : tie.Need-from-out-requires Inv-loop μ-loop
-from-out-requires c κs =
-    let d = due (c .before .before .before .before .before .before .before .before .before .before .before .pre .0) (at-suc (c .before .before .before .before .before .before .before .loop .inv) (c .before .before .before .before .before .before .loop-test .taken)) refl refl (c .before .before .at .ensures) (c .at2 .ensures) in
-    (omega arith, omega arith)
+from-out-requires c κs = omega (arith, known c)
 
 from-in-requires : tie.Need-from-in-requires Inv-loop μ-loop
-from-in-requires c κs =
-    let d = due (c .before .before .before .before .before .before .before .before .before .before .before .before .pre .0) (at-suc (c .before .before .before .before .before .before .before .before .loop .inv) (c .before .before .before .before .before .before .before .loop-test .taken)) refl refl (c .before .before .before .at .ensures) (c .before .at2 .ensures) in
-    (omega arith, omega arith)
+from-in-requires c κs = omega (arith, known (c .before))
 
 add-total : tie.Need-add-total Inv-loop μ-loop
-add-total c =
-    let d = due (c .before .before .before .before .before .before .before .before .before .before .before .before .before .pre .0) (at-suc (c .before .before .before .before .before .before .before .before .before .loop .inv) (c .before .before .before .before .before .before .before .before .loop-test .taken)) refl refl (c .before .before .before .before .at .ensures) (c .before .before .at2 .ensures) in
-    let e = done (c .before .before .before .before .before .before .before .before .before .before .before .before .before .pre .0) (at-suc (c .before .before .before .before .before .before .before .before .before .loop .inv) (c .before .before .before .before .before .before .before .before .loop-test .taken)) refl refl (c .before .before .before .before .at .ensures) (c .before .before .at2 .ensures) (c .before .from-out .ensures) (c .from-in .ensures) in
-    omega arith
+add-total c = omega (arith, known (c .before .before), priced c)
 
 sub-total : tie.Need-sub-total Inv-loop μ-loop
-sub-total c =
-    let e = done (c .before .before .before .before .before .before .before .before .before .before .before .before .before .pre .0) (at-suc (c .before .before .before .before .before .before .before .before .before .loop .inv) (c .before .before .before .before .before .before .before .before .loop-test .taken)) refl refl (c .before .before .before .before .at .ensures) (c .before .before .at2 .ensures) (c .before .from-out .ensures) (c .from-in .ensures) in
-    omega arith
+sub-total c = omega (arith, priced c)
 
 mul-out : tie.Need-mul-out Inv-loop μ-loop
-mul-out c =
-    let d = due (c .before .before .before .before .before .before .before .before .before .before .before .before .before .pre .0) (at-suc (c .before .before .before .before .before .before .before .before .before .loop .inv) (c .before .before .before .before .before .before .before .before .loop-test .taken)) refl refl (c .before .before .before .before .at .ensures) (c .before .before .at2 .ensures) in
-    omega arith
+mul-out c = omega (arith, known (c .before .before))
 
 array-write-out : tie.Need-array-write-out Inv-loop μ-loop
-array-write-out c =
-    due (c .before .before .before .before .before .before .before .before .before .before .before .before .before .pre .0) (at-suc (c .before .before .before .before .before .before .before .before .before .loop .inv) (c .before .before .before .before .before .before .before .before .loop-test .taken)) refl refl (c .before .before .before .before .at .ensures) (c .before .before .at2 .ensures) .place
+array-write-out c = known (c .before .before) .place
 
 add-held : tie.Need-add-held Inv-loop μ-loop
-add-held c =
-    let d = due (c .before .before .before .before .before .before .before .before .before .before .before .before .before .pre .0) (at-suc (c .before .before .before .before .before .before .before .before .before .loop .inv) (c .before .before .before .before .before .before .before .before .loop-test .taken)) refl refl (c .before .before .before .before .at .ensures) (c .before .before .at2 .ensures) in
-    let e = done (c .before .before .before .before .before .before .before .before .before .before .before .before .before .pre .0) (at-suc (c .before .before .before .before .before .before .before .before .before .loop .inv) (c .before .before .before .before .before .before .before .before .loop-test .taken)) refl refl (c .before .before .before .before .at .ensures) (c .before .before .at2 .ensures) (c .before .from-out .ensures) (c .from-in .ensures) in
-    omega arith
+add-held c = omega (arith, known (c .before .before), priced c)
 
 mul-held : tie.Need-mul-held Inv-loop μ-loop
-mul-held c =
-    let d = due (c .before .before .before .before .before .before .before .before .before .before .before .before .before .pre .0) (at-suc (c .before .before .before .before .before .before .before .before .before .loop .inv) (c .before .before .before .before .before .before .before .before .loop-test .taken)) refl refl (c .before .before .before .before .at .ensures) (c .before .before .at2 .ensures) in
-    omega arith
+mul-held c = omega (arith, known (c .before .before))
 
 array-write-held : tie.Need-array-write-held Inv-loop μ-loop
-array-write-held c =
-    due (c .before .before .before .before .before .before .before .before .before .before .before .before .before .pre .0) (at-suc (c .before .before .before .before .before .before .before .before .before .loop .inv) (c .before .before .before .before .before .before .before .before .loop-test .taken)) refl refl (c .before .before .before .before .at .ensures) (c .before .before .at2 .ensures) .place
+array-write-held c = known (c .before .before) .place
 
 loop-less : tie.Need-loop-less Inv-loop μ-loop
 loop-less c = omega arith
 
 loop-again : tie.Need-loop-again Inv-loop μ-loop
 loop-again c =
-    passed-step (c .before .before .before .before .before .before .before .before .before .before .before .before .before .pre .0) (at-suc (c .before .before .before .before .before .before .before .before .before .loop .inv) (c .before .before .before .before .before .before .before .before .loop-test .taken)) refl refl (c .before .before .before .before .at .ensures) (c .before .before .at2 .ensures) (c .before .from-out .ensures) (c .from-in .ensures)
+    let b = c .before .before in
+    let l = b .before .before .before .before .before .before in
+    passed-step (l .before .before .before .before .before .pre .0) (at-suc (l .before .loop .inv) (l .loop-test .taken)) refl refl (b .before .before .at .ensures) (b .at2 .ensures)
+    (c .before .from-out .ensures) (c .from-in .ensures)
 
 returns : tie.Need-returns Inv-loop μ-loop
 returns c =

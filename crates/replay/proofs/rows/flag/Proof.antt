@@ -3,8 +3,6 @@ use lib.ListN.{List·getD-eq-default}
 use borrow.Author.Needs.{needs}
 use Rattle.replay.proofs.rows.flag.Statement.{statement}
 use Rattle.replay.proofs.rows.flag.Tie as tie
-use Rattle.replay.proofs.rows.flag.Reads as reads
-use Rattle.replay.proofs.rows.flag.Lts as lts
 
 shared-slice-read-result : tie.Need-shared-slice-read-result
 shared-slice-read-result c = search needs

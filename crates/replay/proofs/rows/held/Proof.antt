@@ -4,10 +4,6 @@ use Rattle.replay.proofs.Linked.{held-here, held-never}
 use borrow.Author.Needs.{needs}
 use Rattle.replay.proofs.rows.held.Statement.{statement}
 use Rattle.replay.proofs.rows.held.Tie as tie
-use Rattle.replay.proofs.rows.held.Reads as reads
-use Rattle.replay.proofs.rows.held.Lts as lts
-use Rattle.replay.proofs.rows.flag.Reads as flag-reads
-use Rattle.replay.proofs.rows.wide.Reads as wide-reads
 
 mul-wide : tie.Need-mul-wide
 mul-wide c = search needs

@@ -2,19 +2,11 @@
 use mathlib.Core.Bool.{Bool, cond}
 use mathlib.Core.Path.{_∙_, ap}
 use borrow.Author.Needs.{needs}
-use native.Mathlib.Omega.{arith}
 use Prim.Native.Nat.{_-_}
 use lib.ListN.{length}
 use Rattle.replay.proofs.Steps.{RoomLeft, room-start, room-less, room-hit, room-on, room-end}
 use Rattle.replay.proofs.rows.room.Statement.{statement}
 use Rattle.replay.proofs.rows.room.Tie as tie
-use Rattle.replay.proofs.rows.room.Reads as reads
-use Rattle.replay.proofs.rows.room.Lts as lts
-use Rattle.replay.proofs.rows.bit.Reads as bit-reads
-use Rattle.replay.proofs.rows.flag.Reads as flag-reads
-use Rattle.replay.proofs.rows.held.Reads as held-reads
-use Rattle.replay.proofs.rows.refused.Reads as refused-reads
-use Rattle.trace.proofs.slots.Reads as slots-reads
 
 abbrev Inv-loop : tie.InvT-loop
 Inv-loop trace flags prev w within₀ t₀ within t = RoomLeft trace flags within t

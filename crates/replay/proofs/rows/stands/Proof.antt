@@ -7,10 +7,6 @@ use lib.ListN.{length}
 use Rattle.replay.proofs.Steps.{StandsLeft, stands-hit, stands-on, stands-end}
 use Rattle.replay.proofs.rows.stands.Statement.{statement}
 use Rattle.replay.proofs.rows.stands.Tie as tie
-use Rattle.replay.proofs.rows.stands.Reads as reads
-use Rattle.replay.proofs.rows.stands.Lts as lts
-use Rattle.replay.proofs.rows.refused.Reads as refused-reads
-use Rattle.replay.proofs.rows.stray.Reads as stray-reads
 
 abbrev Inv-loop : tie.InvT-loop
 Inv-loop trace flags next prev t₀ t = StandsLeft trace flags t

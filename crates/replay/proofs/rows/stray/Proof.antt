@@ -5,12 +5,6 @@ use Rattle.replay.proofs.Linked.{stray-none, stray-last, stray-held, st
 use borrow.Author.Needs.{needs}
 use Rattle.replay.proofs.rows.stray.Statement.{statement}
 use Rattle.replay.proofs.rows.stray.Tie as tie
-use Rattle.replay.proofs.rows.stray.Reads as reads
-use Rattle.replay.proofs.rows.stray.Lts as lts
-use Rattle.replay.proofs.rows.flag.Reads as flag-reads
-use Rattle.replay.proofs.rows.held.Reads as held-reads
-use Rattle.replay.proofs.rows.wide.Reads as wide-reads
-use Rattle.trace.proofs.kind.Reads as kind-reads
 
 flag-requires : tie.Need-flag-requires
 flag-requires c κs = search needs

@@ -3,11 +3,6 @@ use Rattle.replay.specs.Replay.{flagsTried}
 use borrow.Author.Needs.{needs}
 use Rattle.replay.proofs.rows.tried.Statement.{statement}
 use Rattle.replay.proofs.rows.tried.Tie as tie
-use Rattle.replay.proofs.rows.tried.Reads as reads
-use Rattle.replay.proofs.rows.tried.Lts as lts
-use Rattle.replay.proofs.rows.room.Reads as room-reads
-use Rattle.replay.proofs.rows.stands.Reads as stands-reads
-use Rattle.replay.proofs.rows.values.Reads as values-reads
 
 values-requires : tie.Need-values-requires
 values-requires c κs = search needs

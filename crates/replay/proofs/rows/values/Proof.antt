@@ -1,5 +1,5 @@
 -- `values` meets its contract: t flags are 0 or 1, and the others decide. Assumes nothing.
-use mathlib.Core.Path.{_≡_, refl, sym, _∙_, ap}
+use mathlib.Core.Path.{refl, _∙_}
 use borrow.Author.Needs.{needs}
 use native.Mathlib.Omega.{arith}
 use Prim.Native.Nat.{_-_}
@@ -7,9 +7,6 @@ use lib.ListN.{length}
 use Rattle.replay.proofs.Steps.{ValuesLeft, values-hit, values-on, values-end}
 use Rattle.replay.proofs.rows.values.Statement.{statement}
 use Rattle.replay.proofs.rows.values.Tie as tie
-use Rattle.replay.proofs.rows.values.Reads as reads
-use Rattle.replay.proofs.rows.values.Lts as lts
-use Rattle.replay.proofs.rows.refused.Reads as refused-reads
 
 abbrev Inv-loop : tie.InvT-loop
 Inv-loop flags t₀ t = ValuesLeft flags t

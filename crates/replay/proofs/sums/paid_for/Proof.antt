@@ -5,9 +5,6 @@ use Rattle.replay.proofs.Table.{pays-read-held, pays-read-fill, pays-re
 use borrow.Author.Needs.{needs}
 use Rattle.replay.proofs.sums.paid_for.Statement.{statement}
 use Rattle.replay.proofs.sums.paid_for.Tie as tie
-use Rattle.replay.proofs.sums.paid_for.Reads as reads
-use Rattle.replay.proofs.sums.paid_for.Lts as lts
-use Rattle.replay.proofs.sums.row.Reads as row-reads
 
 row-requires : tie.Need-row-requires
 row-requires c κs = search needs

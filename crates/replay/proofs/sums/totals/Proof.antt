@@ -8,15 +8,6 @@ use Rattle.replay.specs.Answers.{totalsIn}
 use Rattle.replay.proofs.Counting.{TotalsLeft, paidAt, paid-is, totals-start, totals-next, totals-add, totals-end}
 use Rattle.replay.proofs.sums.totals.Statement.{statement}
 use Rattle.replay.proofs.sums.totals.Tie as tie
-use Rattle.replay.proofs.sums.totals.Reads as reads
-use Rattle.replay.proofs.sums.totals.Lts as lts
-use Rattle.replay.proofs.rows.flag.Reads as flag-reads
-use Rattle.replay.proofs.rows.held.Reads as held-reads
-use Rattle.replay.proofs.sums.add.Reads as add-reads
-use Rattle.replay.proofs.sums.paid_for.Reads as paid-for-reads
-use Rattle.trace.proofs.cost.Reads as cost-reads
-use Rattle.trace.proofs.fill.Reads as fill-reads
-use Rattle.trace.proofs.kind.Reads as kind-reads
 
 abbrev Inv-loop : tie.InvT-loop
 Inv-loop trace flags prev fill sum₀ t₀ sum t = TotalsLeft trace flags (totalsIn sum) t

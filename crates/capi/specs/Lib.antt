@@ -1,2 +1,0 @@
--- The definitions that the contracts of `capi` cite.
-pub mod Codes
