@@ -7,10 +7,10 @@ use lib.ListN.{length}
 use lib.Dec.{eqb}
 use borrow.Author.Tests.{eq-eqb, ne-eqb}
 use Rattle.model.specs.Refusals.{passes, refusal, fine, refused, answer}
+use Rattle.model.proofs.Refusals.{answer-fine, answer-refused}
 use Rattle.trace.specs.TraceFile.{requestsAt, traceIn}
 use Rattle.plan.specs.PlanFile.{statedAt, sectionTried, flagsOf, rentsTried}
 use Rattle.replay.specs.Replay.{flagsTried, Totals, totalsOf, replayTried, replayOf}
-use Rattle.replay.proofs.Answered.{answer-fine, answer-refused}
 use Rattle.audit.specs.Audit.{planFlags, planRents, planCost, auditTried, auditOf}
 use Rattle.audit.proofs.Parts.{section-trace, flags-count, flags-part}
 

@@ -9,13 +9,11 @@ use lib.Dec.{eqb}
 use borrow.Author.Tests.{eqb-true, not-false}
 use Rattle.model.specs.Model.{Allowed, cost}
 use Rattle.model.specs.Refusals.{passes, row, Answer, fine}
+use Rattle.model.proofs.Refusals.{row-passes, next-passes, answer-fine}
 use Rattle.trace.specs.TraceFile.{requestsAt, traceTried, traceIn}
-use Rattle.trace.proofs.Sound.{row-passes}
 use Rattle.plan.specs.PlanFile.{statedAt, sectionTried, rentsTried}
-use Rattle.plan.proofs.Sections.{next-passes}
 use Rattle.replay.specs.Replay.{named, flagsTried, Totals, totalsOf}
 use Rattle.replay.specs.Answers.{totalsIn}
-use Rattle.replay.proofs.Answered.{answer-fine}
 use Rattle.replay.proofs.Laws.{flags-allowed, TotalsWithin, totals-within}
 use Rattle.audit.specs.Audit.{planFlags, planRents, planCost, auditTried, auditOf, said}
 use Rattle.audit.specs.declared.Audited.{Audited}

@@ -4,6 +4,7 @@ use Prim.Native.Nat.{ℕ, zero, suc, _*_, _/_, _≤_}
 use native.Mathlib.Omega.{arith}
 use mathlib.Core.List.{List, [], _∷_}
 use lib.ListN.{length, take, length-take, length-drop}
+use Rattle.model.proofs.Refusals.{next-passes}
 use Rattle.fields.specs.Bytes.{putFront}
 use Rattle.model.specs.Links.{listed}
 use Rattle.model.specs.Numbers.{maxRequests}
@@ -12,7 +13,7 @@ use Rattle.trace.specs.TraceFile.{requestsAt, traceTried}
 use Rattle.trace.proofs.Sound.{sound-trace}
 use Rattle.plan.specs.PlanFile.{shapeOf, rentsPart, rentIn, planTried, sectionTried, flagsOf, rentsOf}
 use Rattle.plan.specs.Reading.{rentsInto}
-use Rattle.plan.proofs.Sections.{next-passes, section-sound}
+use Rattle.plan.proofs.Sections.{section-sound}
 use Rattle.plan.proofs.Reading.{length-put}
 use Rattle.audit.specs.Audit.{planFlags, planRents}
 

@@ -15,11 +15,11 @@ use Rattle.model.specs.declared.Refusal.{Refusal}
 use Rattle.model.proofs.Duality.{weak-duality, sub-eq, eq-sub}
 use Rattle.model.proofs.Sanity.{nothing, nothing-allowed}
 use Rattle.model.proofs.Bounds.{no-plan-above}
+use Rattle.model.proofs.Refusals.{row-passes, next-passes, answer-fine, answer-refused}
 use Rattle.trace.specs.TraceFile.{requestsAt, traceTried, traceIn}
 use Rattle.trace.proofs.Sound.{sound-trace, trace-within}
 use Rattle.plan.specs.PlanFile.{rentsTried}
-use Rattle.plan.proofs.Sound.{row-passes, rents-sound}
-use Rattle.plan.proofs.Sections.{answer-fine, answer-refused, next-passes}
+use Rattle.plan.proofs.Sound.{rents-sound}
 use Rattle.replay.specs.Replay.{countTried}
 use Rattle.links.specs.Linked.{nextsIn}
 use Rattle.links.proofs.Answered.{next-at}
@@ -69,7 +69,7 @@ module _ (tr rents : List ℕ) where
 
   module _ (p : Pair) (e : fine p ≡ sidesOf tr rents) where
     pair-is : (floorTried tr rents ≡ passes) × (p ≡ pairIn tr rents)
-    pair-is = let k = answer-fine (floorTried tr rents) (pairIn tr rents) p e in (k, (let f = rw k at e in cc))
+    pair-is = answer-fine (floorTried tr rents) (pairIn tr rents) p e
 
     -- the floor is the one side less the other
     pub floor-fine : fine (subℕ (p .leasts) (p .taken)) ≡ floorOf tr rents

@@ -8,18 +8,13 @@ use borrow.Author.Tests.{eqb-true, eq-eqb, not-false}
 use lib.Dec.{eqb}
 use lib.IntN.{ℤ, pos, negsuc}
 use Rattle.model.specs.Refusals.{Tried, passes, refusal, row, next, Answer, fine, refused, answer}
+use Rattle.model.proofs.Refusals.{row-passes, next-passes}
 use Rattle.trace.specs.TraceFile.{requestsAt, traceTried, traceIn}
 use Rattle.plan.specs.PlanFile.{statedAt, planTried, sectionTried, rentsTried}
-use Rattle.plan.proofs.Sound.{SoundPlan, sound-plan, row-passes}
-use Rattle.plan.proofs.Sections.{next-passes}
+use Rattle.plan.proofs.Sound.{SoundPlan, sound-plan}
 use Rattle.replay.specs.Replay.{flagsTried}
 use Rattle.audit.specs.Audit.{planFlags, planRents, planCost, auditTried}
 use Rattle.judge.specs.Judge.{isℤ, planFloor, judgeTried}
-
--- an answer is a value only if no row holds, and then it is the one offered
-pub answer-fine : {A : Type 0} (t : Tried) (a c : A) → answer t a ≡ fine c → (t ≡ passes) × (a ≡ c)
-answer-fine passes a c e = (refl, cc)
-answer-fine (refusal n p) a c e = let z : _≡_ {A = ℕ} 0 1 = cc in absurd (omega arith)
 
 -- ---- rows 1 to 17
 

@@ -1,5 +1,5 @@
 -- What the judge's word is worth, over the bytes that were judged: an accepted cost is the least over all allowed contents.
-use mathlib.Core.Path.{_≡_}
+use mathlib.Core.Path.{_≡_, sym}
 use mathlib.Core.List.{List}
 use Prim.Native.Nat.{ℕ, _≤_}
 use lib.IntN.{pos}
@@ -10,12 +10,13 @@ use Rattle.model.specs.Refusals.{Tried, passes, Answer, fine}
 use Rattle.model.proofs.Duality.{floor-below-cost}
 use Rattle.model.proofs.Plans.{flags-name-allowed}
 use Rattle.model.proofs.Unique.{floor-gives-least}
+use Rattle.model.proofs.Refusals.{answer-fine}
 use Rattle.trace.specs.TraceFile.{traceIn}
 use Rattle.replay.specs.Replay.{named}
 use Rattle.audit.specs.Audit.{planFlags, planRents, planCost, auditTried}
 use Rattle.judge.specs.Judge.{planFloor, judgeTried, judgeOf}
-use Rattle.judge.proofs.FlagsSound.{flags-sound}
-use Rattle.judge.proofs.Passes.{answer-fine, audit-sound, judge-passes, passes-judge}
+use Rattle.replay.proofs.Laws.{flags-sound}
+use Rattle.judge.proofs.Passes.{audit-sound, judge-passes, passes-judge}
 
 -- the contents that the plan's own flags name
 abbrev pub planContents : (trace plan : List ℕ) → Contents
@@ -30,7 +31,9 @@ pub record Proven (trace plan : List ℕ) (c : ℕ) : Type 0 where
 -- an accepted plan is proven to cost least
 pub accepted-costs-least : (trace plan : List ℕ) (c : ℕ) → judgeOf trace plan ≡ fine c → Proven trace plan c
 accepted-costs-least trace plan c e =
-    let (t, q) = answer-fine (judgeTried trace plan) (planCost trace plan) c e in
+    let k = answer-fine (judgeTried trace plan) (planCost trace plan) c (sym e) in
+    let t = k .0 in
+    let q = sym (k .1) in
     let (a, f) = judge-passes trace plan t in
     let S = planContents trace plan in
     let s : Allowed (traceIn trace) S =

@@ -16,13 +16,14 @@ use Rattle.model.specs.Refusals.{Tried, passes, said, fine, refused}
 use Rattle.model.specs.declared.Refusal.{Refusal}
 use Rattle.model.specs.declared.Outcome.{Outcome}
 use Rattle.model.specs.declared.Outcome.the-variants.{Sound, Refused}
+use Rattle.model.proofs.Refusals.{answer-fine, answer-refused}
 use Rattle.trace.specs.TraceFile.{requestsAt, traceIn}
 use Rattle.trace.specs.declared.Checked.{Checked}
 use Rattle.trace.proofs.Sound.{sound-trace, reqs-length}
 use Rattle.links.specs.Promise.{Filled}
 use Rattle.replay.specs.Replay.{Totals, totalsOf, replayTried, replayOf}
 use Rattle.replay.proofs.Laws.{replay-passes, flags-sound}
-use Rattle.replay.proofs.Answered.{answer-fine, answer-refused, filled-forward}
+use Rattle.replay.proofs.Answered.{filled-forward}
 use Rattle.lanes.specs.Lanes.{Drawn, rowIn, placeAt, chartTo, rowsOf, Laned}
 use Rattle.lanes.specs.Steps.{Ready, Laying}
 use Rattle.lanes.proofs.Charts.{keeper-below, chart-shows, chart-each, chart-keeps, chart-row}

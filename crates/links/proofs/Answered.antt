@@ -11,6 +11,7 @@ use Rattle.model.specs.Links.{nextOf, prevOf, listed}
 use Rattle.model.specs.Refusals.{Tried, passes, refusal, fine, refused, answer}
 use Rattle.model.specs.declared.Refusal.{Refusal}
 use Rattle.model.proofs.Links.{length-listed, getD-listed}
+use Rattle.model.proofs.Refusals.{answer-fine, answer-refused}
 use Rattle.trace.specs.TraceFile.{requestsAt, traceTried, traceIn}
 use Rattle.trace.specs.Answers.{said, checkOf, headerIn}
 use Rattle.trace.specs.declared.Header.{Header}
@@ -21,16 +22,6 @@ use Rattle.links.specs.Linked.{nexts, prevs, laid, nextsIn, prevsIn}
 use Rattle.links.specs.Promise.{Filled}
 use Rattle.links.specs.Chains.{Read, Nexts, NextsLaid, Cleared, Single, Turned}
 use Rattle.links.proofs.Fills.{front, nexts-are, next-of-one, prevs-are}
-
--- a value is answered where no row holds
-answer-fine : {A : Type 0} (t : Tried) (a b : A) → fine b ≡ answer t a → (t ≡ passes) × (b ≡ a)
-answer-fine passes a b e = (refl, cc)
-answer-fine (refusal number place) a b e = absurd (let z : _≡_ {A = ℕ} 0 1 = cc in omega arith)
-
--- and a refusal where it does
-answer-refused : {A : Type 0} (t : Tried) (a : A) (number place : ℕ) → refused number place ≡ answer t a → t ≡ refusal number place
-answer-refused passes a number place e = absurd (let z : _≡_ {A = ℕ} 0 1 = cc in omega arith)
-answer-refused (refusal n p) a number place e = cc
 
 -- what is laid down of n numbers
 laid-front : (t : Tried) (n : ℕ) (new old : List ℕ) → t ≡ passes → length new ≡ n → laid t new old ≡ new ++ drop n old

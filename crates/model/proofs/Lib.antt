@@ -6,6 +6,7 @@ pub mod Duality
 pub mod Plans
 pub mod Links
 pub mod Rows
+pub mod Refusals
 pub mod Bounds
 pub mod Unique
 pub mod Sanity

@@ -7,23 +7,13 @@ use mathlib.Core.List.{List, [], _∷_}
 use lib.ListN.{length, getD}
 use lib.Dec.{eqb, ltb}
 use borrow.Author.Tests.{eqb-true, eq-eqb, ltb-false, le-ltb, not-false}
+use Rattle.model.proofs.Refusals.{row-passes, both-true}
 use Rattle.fields.specs.Bytes.{numAt, standAt}
 use Rattle.model.specs.Numbers.{maxRent}
 use Rattle.model.specs.Refusals.{Tried, passes, refusal, row, said}
 use Rattle.model.specs.declared.Outcome.{Outcome}
 use Rattle.model.specs.declared.Outcome.the-variants.{Sound, Refused}
 use Rattle.plan.specs.PlanFile.{shapeOf, lengthOf, markedPlan, planTried, rentsTried}
-
--- a row that does not hold, and what follows it
-pub row-passes : (test : Bool) (number place : ℕ) (rest : Tried) → row test number place rest ≡ passes → (test ≡ false) × (rest ≡ passes)
-row-passes true number place rest h = let z : _≡_ {A = ℕ} 0 1 = cc in absurd (omega arith)
-row-passes false number place rest h = (refl, h)
-
--- both of two tests that pass together
-pub both-true : (a b : Bool) → (a && b) ≡ true → (a ≡ true) × (b ≡ true)
-both-true true true h = (refl, refl)
-both-true true false h = (refl, h)
-both-true false b h = (h, absurd (false≢true h))
 
 -- ---- rows 9 to 12
 

@@ -6,10 +6,10 @@ use mathlib.Core.Bool.{Bool, true, _&&_}
 use mathlib.Core.List.{List, [], _∷_}
 use lib.Dec.{ltb}
 use borrow.Author.Tests.{ltb-true}
+use Rattle.model.proofs.Refusals.{both-true}
 use Rattle.fields.proofs.Bytes.{AllBelow}
 use Rattle.fields.specs.Bytes.{bytesOf}
 use Rattle.plan.specs.PlanFile.{shapeOf, statedAt, flagsPart, rentsAt, planBytes}
-use Rattle.plan.proofs.Sound.{both-true}
 use Rattle.plan.proofs.Standing.{is-bytes}
 use Rattle.plan.proofs.Written.{Fits, Holds, read-back}
 

@@ -6,6 +6,7 @@ use mathlib.Core.List.{List}
 use lib.ListN.{length}
 use borrow.Author.Tests.{eq-eqb, ne-eqb}
 use Rattle.model.specs.Refusals.{Tried, passes, refusal, fine, refused, answer}
+use Rattle.model.proofs.Refusals.{answer-fine, answer-refused}
 use Rattle.trace.specs.TraceFile.{requestsAt, traceTried, traceIn}
 use Rattle.trace.specs.Answers.{headerIn, checkOf}
 use Rattle.trace.specs.declared.Header.{Header}
@@ -15,16 +16,6 @@ use Rattle.links.specs.Promise.{Filled}
 use Rattle.links.proofs.Answered.{next-at, prev-at}
 use Rattle.replay.specs.Replay.{flagsTried, Totals, totalsOf, replayTried, replayOf}
 use Rattle.replay.specs.Linked.{Forward}
-
--- a value is answered where no row holds
-pub answer-fine : {A : Type 0} (t : Tried) (a b : A) → fine b ≡ answer t a → (t ≡ passes) × (b ≡ a)
-answer-fine passes a b e = (refl, cc)
-answer-fine (refusal number place) a b e = absurd (let z : _≡_ {A = ℕ} 0 1 = cc in omega arith)
-
--- and a refusal where one does
-pub answer-refused : {A : Type 0} (t : Tried) (a : A) (number place : ℕ) → refused number place ≡ answer t a → t ≡ refusal number place
-answer-refused passes a number place e = absurd (let z : _≡_ {A = ℕ} 0 1 = cc in omega arith)
-answer-refused (refusal n p) a number place e = cc
 
 -- a trace that is answered with its head passes rows 1 to 8
 pub check-passes : (tr : List ℕ) (h : Header) → fine h ≡ checkOf tr → traceTried tr ≡ passes

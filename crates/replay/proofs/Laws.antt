@@ -15,8 +15,9 @@ use Rattle.model.specs.Refusals.{Tried, passes, refusal, next, Answer, answer}
 use Rattle.model.proofs.Sums.{sum-zero}
 use Rattle.model.proofs.Plans.{flags-name-allowed}
 use Rattle.model.proofs.Bounds.{no-plan-above}
+use Rattle.model.proofs.Refusals.{row-passes, next-passes}
 use Rattle.trace.specs.TraceFile.{requestsAt, traceTried, traceIn}
-use Rattle.trace.proofs.Sound.{row-passes, sound-trace, trace-within, reqs-length}
+use Rattle.trace.proofs.Sound.{sound-trace, trace-within, reqs-length}
 use Rattle.replay.specs.Replay.{valuesTried, standsTried, roomTried, named, flagsTried, countTried, Totals, totalsOf, replayTried}
 use Rattle.replay.specs.Answers.{totalsIn, said}
 use Rattle.replay.specs.declared.Totals as code
@@ -25,11 +26,6 @@ use Rattle.replay.specs.declared.Replayed.the-variants.{Done, Refused}
 use Rattle.replay.proofs.Counting.{no-count-above}
 
 -- ---- rows that pass
-
--- of two ranges that pass, both do
-pub next-passes : (a b : Tried) → next a b ≡ passes → (a ≡ passes) × (b ≡ passes)
-next-passes passes b h = (refl, h)
-next-passes (refusal n p) b h = absurd (let z : _≡_ {A = ℕ} 0 1 = cc in omega arith)
 
 -- a flag that is 1 may be
 may-be : (x may : Bool) → (x && not may) ≡ false → x ≡ true → may ≡ true

@@ -13,6 +13,7 @@ use Rattle.model.specs.Links.{listed}
 use Rattle.model.proofs.Links.{length-listed, getD-listed}
 use Rattle.model.specs.Numbers.{maxCost, CostsWithin, Within}
 use Rattle.model.specs.Refusals.{Tried, passes, row, Answer}
+use Rattle.model.proofs.Refusals.{row-passes}
 use Rattle.trace.specs.TraceFile.{requestsAt, kindAt, zeroAt, costAt, markedTrace, recordsTried, traceTried, requestIn, traceIn, SoundTrace}
 use Rattle.trace.proofs.Records.{record-by-record}
 use Rattle.trace.specs.Answers.{said}
@@ -21,11 +22,6 @@ use Rattle.trace.specs.declared.Checked.{Checked}
 use Rattle.trace.specs.declared.Checked.the-variants.{Sound, Refused}
 
 -- ---- rows
-
--- a row that lets pass does not hold, and what follows passes
-pub row-passes : (test : Bool) (number place : ℕ) (rest : Tried) → row test number place rest ≡ passes → (test ≡ false) × (rest ≡ passes)
-row-passes true number place rest h = absurd (let z : _≡_ {A = ℕ} 0 1 = cc in omega arith)
-row-passes false number place rest h = (refl, h)
 
 -- a disjunction that fails
 neither : (a b : Bool) → (a || b) ≡ false → (a ≡ false) × (b ≡ false)

@@ -9,15 +9,14 @@ use lib.Seq.{sets, sets-eq}
 use lib.Dec.{eqb, ltb}
 use borrow.Author.Tests.{eq-eqb, ne-eqb, eqb-true, lt-ltb, le-ltb, ltb-false, not-false}
 use Rattle.model.specs.Refusals.{Tried, passes, refusal, row, next, fine, refused}
+use Rattle.model.proofs.Refusals.{row-passes, next-passes, answer-fine, answer-refused}
 use Rattle.trace.specs.TraceFile.{requestsAt, traceTried, traceIn}
 use Rattle.trace.specs.Answers.{headerIn, checkOf}
 use Rattle.trace.specs.declared.Header.{Header}
 use Rattle.plan.specs.PlanFile.{lengthOf, shapeOf, rentsTried, planBytes}
-use Rattle.plan.proofs.Sections.{next-passes, answer-refused}
-use Rattle.plan.proofs.Sound.{row-passes}
 use Rattle.plan.proofs.Written.{plan-length}
 use Rattle.replay.specs.Replay.{countTried, flagsTried, Totals, totalsOf, replayTried, replayOf}
-use Rattle.replay.proofs.Answered.{answer-fine, check-passes}
+use Rattle.replay.proofs.Answered.{check-passes}
 use Rattle.replay.proofs.Laws.{Replays, replay-passes}
 use Rattle.writer.specs.Write.{bufferTried, writtenCost, writeTried, writeOf, bufferOf}
 

@@ -7,17 +7,17 @@ use mathlib.Core.List.{List, [], _++_, append-nil}
 use lib.ListN.{length, take, drop, drop-of-length-le}
 use lib.Seq.{take-at, drop-at}
 use borrow.Author.Tests.{eq-eqb}
+use Rattle.model.proofs.Refusals.{next-passes, answer-fine}
 use Rattle.fields.proofs.Bytes.{AllBytes}
 use Rattle.model.specs.Refusals.{passes, Answer, fine}
 use Rattle.model.proofs.Links.{length-listed}
 use Rattle.trace.specs.TraceFile.{requestsAt, traceTried}
 use Rattle.trace.proofs.Sound.{sound-trace}
 use Rattle.plan.specs.PlanFile.{shapeOf, lengthOf, statedAt, rentsPart, rentIn, rentsAt, planTried, sectionTried, flagsOf, planBytes}
-use Rattle.plan.proofs.Sections.{next-passes, section-sound}
+use Rattle.plan.proofs.Sections.{section-sound}
 use Rattle.plan.proofs.Sound.{rents-sound}
 use Rattle.plan.proofs.Standing.{is-bytes}
 use Rattle.plan.proofs.Written.{Fits, plan-length, read-back, bytes-differ}
-use Rattle.replay.proofs.Answered.{answer-fine}
 use Rattle.replay.proofs.Laws.{totals-within}
 use Rattle.audit.specs.Audit.{planFlags, planRents, planCost, auditTried}
 use Rattle.audit.proofs.Parts.{flags-count}

@@ -7,6 +7,7 @@ use mathlib.Core.List.{List, [], _∷_, _++_}
 use lib.Dec.{ltb}
 use lib.ListN.{length, drop}
 use borrow.Author.Tests.{ltb-true}
+use Rattle.model.proofs.Refusals.{both-true}
 use Rattle.fields.specs.Bytes.{numAt}
 use Rattle.fields.proofs.Bytes.{AllBytes}
 use Rattle.model.specs.Model.{cost}
@@ -14,7 +15,6 @@ use Rattle.model.specs.Refusals.{passes, fine}
 use Rattle.trace.specs.TraceFile.{traceTried}
 use Rattle.trace.proofs.Example.{exampleBytes}
 use Rattle.plan.specs.PlanFile.{planTried, sectionTried}
-use Rattle.plan.proofs.Sound.{both-true}
 use Rattle.replay.specs.Replay.{flagsTried}
 use Rattle.audit.specs.Audit.{auditTried}
 use Rattle.writer.specs.Write.{writeTried, writeOf, bufferOf}

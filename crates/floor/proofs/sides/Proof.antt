@@ -3,10 +3,10 @@ use mathlib.Core.Path.{_≡_, sym, _∙_}
 use denote.Ref.{now}
 use lib.ListN.{length}
 use Rattle.model.specs.Refusals.{passes}
+use Rattle.model.proofs.Refusals.{answer-fine, answer-refused}
 use Rattle.trace.specs.TraceFile.{requestsAt, traceTried}
 use Rattle.trace.specs.Answers.{headerIn}
 use Rattle.plan.specs.PlanFile.{rentsTried}
-use Rattle.plan.proofs.Sections.{answer-fine, answer-refused}
 use Rattle.floor.proofs.Answers.{tried-trace, tried-count, tried-rents, ready}
 use borrow.Author.Needs.{needs}
 use Rattle.floor.proofs.sides.Statement.{statement}
@@ -36,7 +36,7 @@ sound : (c : tie.After-enum-told) → traceTried (now (c .before .before .before
 sound c =
     let d = c .before .before in
     let tr = now (d .before .before .before .before .before .args .trace) in
-    answer-fine (traceTried tr) (headerIn tr) _ (rw (c .enum-told .given .1) at (d .fill .ensures .answer))
+    answer-fine (traceTried tr) (headerIn tr) _ (rw (c .enum-told .given .1) at (d .fill .ensures .answer)) .0
 
 returns-2 : tie.Need-returns-2
 returns-2 c = rw (tried-count _ _ (sound (c .before .before)) (λ q. c .if1 .taken (q ∙ sym (c .before .requests .ensures .0))))

@@ -3,12 +3,11 @@ use mathlib.Core.Path.{_≡_, sym, ap}
 use borrow.Author.Needs.{needs}
 use denote.Ref.{now}
 use Rattle.model.specs.Refusals.{passes, refusal}
+use Rattle.model.proofs.Refusals.{answer-fine, answer-refused}
 use Rattle.trace.specs.TraceFile.{traceIn}
 use Rattle.replay.specs.Replay.{Totals, totalsOf}
 use Rattle.audit.specs.Audit.{planFlags, auditTried}
-use Rattle.plan.proofs.Sections.{answer-refused}
 use Rattle.judge.specs.Judge.{judgeTried}
-use Rattle.judge.proofs.Passes.{answer-fine}
 use Rattle.judge.proofs.judge.Statement.{statement}
 use Rattle.judge.proofs.judge.Tie as tie
 
@@ -27,8 +26,8 @@ weighed-requires c κs =
     let s = d .before .before .before in
     let tr = now (s .args .trace) in
     let pl = now (s .args .plan) in
-    let k = answer-fine (auditTried tr pl) (totalsOf (traceIn tr) (planFlags tr pl)) _ (sym (rw (c .before .totals .given .1) at (d .audit .ensures))) in
-    (k .0, sym (ap (λ (x : Totals). x .total) (k .1)))
+    let k = answer-fine (auditTried tr pl) (totalsOf (traceIn tr) (planFlags tr pl)) _ (rw (c .before .totals .given .1) at (d .audit .ensures)) in
+    (k .0, ap (λ (x : Totals). x .total) (k .1))
 
 returns : tie.Need-returns
 unfolding judgeTried

@@ -2,10 +2,10 @@
 use mathlib.Core.Path.{_≡_, _∙_}
 use denote.Ref.{now}
 use Rattle.model.specs.Refusals.{passes, refusal}
+use Rattle.model.proofs.Refusals.{answer-fine, answer-refused}
 use Rattle.trace.specs.TraceFile.{traceTried}
 use Rattle.trace.specs.Answers.{headerIn}
 use Rattle.plan.specs.PlanFile.{sectionTried}
-use Rattle.plan.proofs.Sections.{answer-fine, answer-refused}
 use borrow.Author.Needs.{needs}
 use Rattle.plan.proofs.refusal.Statement.{statement}
 use Rattle.plan.proofs.refusal.Tie as tie
@@ -38,7 +38,7 @@ unfolding sectionTried
 returns-2 c =
     let d = c .before .before .before .before in
     let tr = now (d .before .before .before .args .trace) in
-    let e : traceTried tr ≡ passes = answer-fine (traceTried tr) (headerIn tr) _ (rw (c .before .before .enum-told .given .1) at (d .check .ensures)) in
+    let e : traceTried tr ≡ passes = answer-fine (traceTried tr) (headerIn tr) _ (rw (c .before .before .enum-told .given .1) at (d .check .ensures)) .0 in
     c .tried .ensures ∙ rw (e, c .before .requests .ensures .0)
 
 pub refusal-spec : {M : Type 1} → statement M
