@@ -1,0 +1,2 @@
+-- Files: laws on the name of a part file.
+mod Names
