@@ -1,2 +1,3 @@
--- Files: laws on the name of a part file.
+-- Files: what a caller learns of a load, and the name of a part file.
+pub mod Loads
 mod Names
