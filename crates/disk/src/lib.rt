@@ -69,7 +69,7 @@ fn fill(fd: i32, name: &[u8], buf: &mut [u8]) -> Loaded
 
 // Writes the bytes beside the file, under its name with `.part` after it, and renames that over it,
 // so that a reader finds the old bytes or the new and never a part. Answers whether it did. Where it
-// did not, it has said why, and the file is as it was.
+// did not, it has said why, and the file is as it was. The mode is that of a file newly made.
 pub fn save(path: &[u8], bytes: &[u8]) -> bool {
     if path.len() > part::LONGEST {
         io::write_all(libc::STDERR_FILENO, path);
