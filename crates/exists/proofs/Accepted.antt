@@ -25,7 +25,7 @@ use Rattle.judge.proofs.Theorem.{accepted-least}
 use Rattle.network.proofs.Exists.{Proving, proving-exists}
 
 -- flags of 0 and 1 pass row 13
-values-pass : (t : ℕ) (flags : List ℕ) → ((i : ℕ) → getD flags i 0 ≤ 1) → valuesTried t flags ≡ passes
+pub values-pass : (t : ℕ) (flags : List ℕ) → ((i : ℕ) → getD flags i 0 ≤ 1) → valuesTried t flags ≡ passes
 values-pass t [] h = refl
 values-pass t (f ∷ fs) h = rw (le-ltb 1 f (h 0)) (values-pass (suc t) fs (λ i. h (suc i)))
 

@@ -1,0 +1,2 @@
+-- The definitions that the contracts of `capi` cite.
+pub mod Codes
