@@ -25,6 +25,7 @@ use Rattle.audit.proofs.Parts.{section-trace, flags-count}
 use Rattle.judge.specs.Judge.{isℤ, planFloor, judgeTried}
 use Rattle.floor.specs.Floor.{floorTried}
 use Rattle.ratio.specs.Ratio.{ratioTried}
+use Rattle.solver.specs.Solve.{solveTried}
 use Rattle.writer.specs.Write.{bufferTried, writeTried}
 use Rattle.capi.specs.Codes.{Codable, codeOfTried}
 
@@ -159,6 +160,10 @@ write-small tr flags rents room =
     (λ long-rents. next-small (flags-small tr flags ok (count-passes n flags long))
     (λ _. next-small (rents-small 0 rents (omega (arith, few tr ok, count-passes n rents long-rents)))
     (λ _. buffer-small n room)))))
+
+pub solve-small : (tr : List ℕ) (room : ℕ) → Small (solveTried tr room)
+unfolding solveTried
+solve-small tr room = next-small (trace-small tr) (λ _. buffer-small (requestsAt tr) room)
 
 pub ratio-small : (least measured : ℕ) → Small (ratioTried least measured)
 unfolding ratioTried

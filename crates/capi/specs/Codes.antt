@@ -1,10 +1,13 @@
 -- What the calls answer in C: 0 when the work is done, else the refusal's number + 256 · its place; and what lent numbers then hold.
 -- Assumes nothing.
+use mathlib.Core.Path.{_≡_}
 use Prim.Native.Nat.{ℕ, _+_, _*_, _≤_, _<_}
 use mathlib.Core.List.{List, [], _∷_}
 use lib.Ieee.{Float}
 use Rattle.model.specs.Refusals.{Tried, passes, refusal, Answer, fine, refused}
 use Rattle.replay.specs.Replay.{Totals}
+use Rattle.solver.specs.Solve.{said, Promise}
+use Rattle.solver.specs.declared.Solved.{Solved}
 use Rattle.ratio.specs.declared.Gap.{Gap}
 use Rattle.ratio.specs.declared.Gap.the-variants.{NoCost, NoRatio, Ratio}
 
@@ -55,3 +58,10 @@ pub record Codable (number place : ℕ) : Type 0 where
   pub some : 0 < number
   pub byte : number < 256
   pub near : place ≤ 65536
+
+-- what gp_solve leaves: some answer that solve's promise permits, its code, its cost, and the buffer
+pub record Solves (trace before : List ℕ) (cost code : ℕ) (after : List ℕ) (cost′ : ℕ) : Type 0 where
+  pub answer : Solved
+  pub promise : Promise trace before answer after
+  pub code-is : code ≡ codeOf (said answer)
+  pub cost-is : cost′ ≡ valueOr (said answer) cost

@@ -9,7 +9,7 @@ ghost use Rattle.judge.specs.Judge.{judgeOf};
 ghost use Rattle.floor.specs.Floor.{floorOf};
 ghost use Rattle.ratio.specs.Ratio.{ratioOf};
 ghost use Rattle.writer.specs.Write.{writeOf, bufferOf};
-ghost use Rattle.capi.specs.Codes.{Codable, codeOfTried, codeOf, valueOr, totalsOr, kindOr, ratioOr};
+ghost use Rattle.capi.specs.Codes.{Codable, Solves, codeOfTried, codeOf, valueOr, totalsOr, kindOr, ratioOr};
 use audit::Audited;
 use floor::Floored;
 use judge::Judged;
@@ -17,6 +17,7 @@ use model::Outcome;
 use model::Refusal;
 use ratio::Gap;
 use ratio::Rated;
+use solver::Solved;
 use writer::Written;
 
 // The code of a refusal.
@@ -88,6 +89,20 @@ pub extern "C" fn gp_write(
     match writer::write(trace, flags, rents, buffer) {
         Written::Refused(r) => code(r),
         Written::Cost(c) => {
+            *cost = c;
+            0
+        }
+    }
+}
+
+// A least-cost plan from the buffer's start, and its cost. Refusals 1 to 8, then 19.
+#[no_mangle]
+pub extern "C" fn gp_solve(trace: &[u8], buffer: &mut [u8], cost: &mut u64) -> u64
+    ensures { λ r. ⌜ Solves (now (trace .entry)) (now (buffer .entry)) (now (cost .entry)) r (now (buffer .exit)) (now (cost .exit)) ⌝ }
+{
+    match solver::solve(trace, buffer) {
+        Solved::Refused(r) => code(r),
+        Solved::Least(c) => {
             *cost = c;
             0
         }
