@@ -1,11 +1,12 @@
 -- The table of charges, row by row: what a request pays and counts for. Assumes nothing.
-use mathlib.Core.Path.{_≡_, sym}
+use mathlib.Core.Path.{_≡_, refl, sym}
 use Prim.Native.Nat.{ℕ, _+_}
 use mathlib.Core.Bool.{Bool, true, false}
 use Rattle.model.specs.Model.{Rules, Request}
 use Rattle.model.proofs.Rows.{read-held, read-fill, read-miss, write-held, write-not}
 use Rattle.replay.specs.Replay.{Totals}
 use Rattle.replay.specs.Linked.{paid}
+use Rattle.replay.specs.Rows.{rowOf, paidIn}
 use Rattle.replay.proofs.Counting.{same-totals}
 
 -- the four numbers
@@ -32,3 +33,14 @@ module _ (ru : Rules) (r : Request) (before after : Bool) where
   -- a write of an item not held pays nothing
   pub pays-write-not : r .write ≡ true → before ≡ false → counted 0 0 0 0 ≡ paid ru r before after
   pays-write-not w b = rw b (same-totals _ _ (sym (write-not ru r w after)) (rw w) (rw w) (rw w))
+
+row-paid-by : (ru : Rules) (r : Request) (write before after : Bool) → r .write ≡ write → paidIn (rowOf write before after) (r .cost) (ru .fill) ≡ paid ru r before after
+row-paid-by ru r true true after w = pays-write-held ru r true after w refl
+row-paid-by ru r true false after w = pays-write-not ru r false after w refl
+row-paid-by ru r false true after w = pays-read-held ru r true after w refl
+row-paid-by ru r false false true w = pays-read-fill ru r false true w refl refl
+row-paid-by ru r false false false w = pays-read-miss ru r false false w refl refl
+
+-- the row of a request charges and counts what the model does
+pub row-paid : (ru : Rules) (r : Request) (before after : Bool) → paidIn (rowOf (r .write) before after) (r .cost) (ru .fill) ≡ paid ru r before after
+row-paid ru r before after = row-paid-by ru r (r .write) before after refl

@@ -7,12 +7,14 @@ ghost use Rattle.replay.specs.Replay.{totalsOf};
 ghost use Rattle.replay.specs.Answers.{totalsIn};
 ghost use Rattle.replay.specs.Linked.{Backward, Adds, paid, plus};
 use crate::Totals;
+use crate::paid_of;
+use crate::row_of;
 use crate::rows::flag;
 use crate::rows::held;
 use model::Requests;
 
-// What a row of the table of charges comes to.
-pub fn row(total: u64, misses: u64, fills: u64, strikes: u64) -> Totals
+// The four numbers.
+pub fn counted(total: u64, misses: u64, fills: u64, strikes: u64) -> Totals
     ensures { λ r. ⌜ totalsIn r ≡ record { total = total; misses = misses; fills = fills; strikes = strikes } ⌝ }
 {
     Totals {
@@ -28,19 +30,7 @@ pub fn paid_for(fill: u64, write: bool, cost: u64, before: bool, after: bool) ->
     requires { ⌜ (fill ≤ maxCost) × (cost ≤ maxCost) ⌝ }
     ensures { λ r. ⌜ ((w i : ℕ) → totalsIn r ≡ paid (record { slots = w; fill = fill }) (record { write = write; item = i; cost = cost }) before after) ⌝ }
 {
-    if write {
-        if before {
-            return row(cost, 0, 0, 1);
-        }
-        return row(0, 0, 0, 0);
-    }
-    if !before {
-        if after {
-            return row(cost + fill, 1, 1, 0);
-        }
-        return row(cost, 1, 0, 0);
-    }
-    row(0, 0, 0, 0)
+    paid_of(row_of(write, before, after), cost as u32, fill as u32)
 }
 
 // One after the other.
