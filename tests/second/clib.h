@@ -12,6 +12,7 @@ void *memset(void *to, int byte, size_t len);
 int memcmp(const void *a, const void *b, size_t len);
 int strcmp(const char *a, const char *b);
 unsigned long strtoul(const char *text, char **end, int base);
+long write(int file, const void *bytes, size_t len);
 _Noreturn void exit(int status);
 
 #endif

@@ -1,0 +1,2 @@
+-- Laws of the pieces of a trace file.
+pub mod Pieces

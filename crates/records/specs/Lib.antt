@@ -1,0 +1,2 @@
+-- What the pieces of a trace file hold.
+pub mod Records
