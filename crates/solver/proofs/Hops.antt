@@ -1,12 +1,12 @@
 -- Raising worths place by place, and a walk hop by hop. Assumes nothing.
-use mathlib.Core.Path.{_≡_, refl, _∙_}
+use mathlib.Core.Path.{_≡_, refl, _∙_, sym}
 use Prim.Native.Nat.{ℕ, suc, _+_, _*_, _-_, _≤_, _<_}
 use native.Mathlib.Omega.{arith}
 use mathlib.Core.Bool.{_&&_}
 use mathlib.Core.List.{List}
 use lib.Dec.{ltb, eqb}
 use lib.ListN.{length, getD, set, length-set}
-use lib.Seq.{getD-set-same, getD-set-other}
+use lib.Seq.{getD-set-same, getD-set-other, set-getD}
 use borrow.Author.Tests.{ltb-true, eqb-true, eqb-false}
 use Rattle.model.specs.Model.{Trace}
 use Rattle.model.specs.Plans.{flagsIn}
@@ -38,6 +38,10 @@ raise-more dist old new v d l r = record {
       (λ e. getD-set-other new v u _ 0 (eqb-false u v e) ∙ r .grown u (omega (arith, eqb-false u v e)));
   kept = λ u m. getD-set-other new v u _ 0 (λ e. omega arith) ∙ r .kept u (omega arith);
 }
+
+-- a worth whose distance is not short of d stays
+pub lift-none : (l : List ℕ) (v dist d : ℕ) → d ≤ dist → l ≡ set l v (getD l v 0 + (d - dist))
+lift-none l v dist d h = let e : getD l v 0 + (d - dist) ≡ getD l v 0 = omega arith in rw e (sym (set-getD l v 0))
 
 -- ---- a hop
 

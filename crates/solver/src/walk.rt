@@ -2,15 +2,19 @@
 // The walk is handed the trace and the worths, which it does not read, so that its contract can speak of them.
 ghost use mathlib.Core.Path.{_≡_};
 ghost use Prim.Native.Nat.{ℕ, suc, _+_, _*_, _-_, _≤_, _<_};
-ghost use lib.ListN.{length, getD};
+ghost use lib.ListN.{length, getD, set};
 ghost use Rattle.trace.specs.TraceFile.{traceIn};
 ghost use Rattle.solver.specs.Slots.{Raised, hopFlags, Trail, Walked};
 
-// What a distance is short of d.
-fn short(dist: u64, d: u64) -> u64
-    ensures { λ r. ⌜ r ≡ d - dist ⌝ }
+// Node v's worth grows by what its distance is short of d. It is stored only where it grows: wide arithmetic on all of them is
+// slow where the program runs under an emulator.
+fn lift(worth: &mut [u64], v: usize, dist: u64, d: u64)
+    requires { ⌜ (v < length (now worth)) × (d ≤ 4000000000) × (getD (now worth) v 0 ≤ 4000000000) ⌝ }
+    ensures { λ _. ⌜ now (worth .exit) ≡ set (now (worth .entry)) v (getD (now (worth .entry)) v 0 + (d - dist)) ⌝ }
 {
-    if dist < d { d - dist } else { 0 }
+    if dist < d {
+        worth[v] = worth[v] + (d - dist);
+    }
 }
 
 // Each node's worth grows by what its distance is short of d.
@@ -20,7 +24,7 @@ pub fn raise(worth: &mut [u64], dist: &[u64; 2050], nodes: usize, d: u64)
 {
     let mut v: usize = 0;
     while v < nodes {
-        worth[v] = worth[v] + short(dist[v], d);
+        lift(worth, v, dist[v], d);
         v += 1;
     }
 }

@@ -17,32 +17,19 @@ abbrev μ-loop : tie.MeasureT-loop
 loop-holds : tie.Need-loop-holds Inv-loop μ-loop
 loop-holds c = (omega arith, raise-none _ _ _)
 
-mul-worth : tie.Need-mul-worth Inv-loop μ-loop
-mul-worth c = search needs
+mul-lift : tie.Need-mul-lift Inv-loop μ-loop
+mul-lift c = search needs
 
-slice-read-worth : tie.Need-slice-read-worth Inv-loop μ-loop
-slice-read-worth c = omega (arith, c .before .before .loop .inv .1 .long)
+element-copy-out-lift : tie.Need-element-copy-out-lift Inv-loop μ-loop
+element-copy-out-lift c = search needs
 
-mul-short : tie.Need-mul-short Inv-loop μ-loop
-mul-short c = search needs
-
-element-copy-out-short : tie.Need-element-copy-out-short Inv-loop μ-loop
-element-copy-out-short c = search needs
-
-short-requires : tie.Need-short-requires Inv-loop μ-loop
-short-requires c κs = search needs
-
-add-worth : tie.Need-add-worth Inv-loop μ-loop
-add-worth c =
-    let s = c .before .before .before .before .before .before in
-    let l = c .before .before .before .before .loop in
-    omega (arith, c .short .ensures, l .inv .1 .kept (l .v) (omega arith), s .pre .3 (l .v) (omega arith))
-
-mul-worth-2 : tie.Need-mul-worth-2 Inv-loop μ-loop
-mul-worth-2 c = search needs
-
-slice-write-worth : tie.Need-slice-write-worth Inv-loop μ-loop
-slice-write-worth c = omega (arith, c .before .before .before .before .loop .inv .1 .long)
+lift-requires : tie.Need-lift-requires Inv-loop μ-loop
+lift-requires c κs =
+    let s = c .before .before .before .before .before in
+    let l = c .before .before .before .loop in
+    let grown = l .inv .1 .kept (l .v) (omega arith) in
+    let small = s .pre .3 (l .v) (omega arith) in
+    (omega (arith, l .inv .1 .long), omega arith, omega arith)
 
 add-v : tie.Need-add-v Inv-loop μ-loop
 add-v c = search needs
@@ -52,8 +39,8 @@ loop-less c = search needs
 
 loop-again : tie.Need-loop-again Inv-loop μ-loop
 loop-again c =
-    let l = c .before .before .before .before .loop in
-    (omega arith, rw (c .short .ensures) (raise-more _ _ (l .worth) (l .v) _ (omega (arith, l .inv .1 .long)) (l .inv .1)))
+    let l = c .before .before .before .before .before .before .loop in
+    (omega arith, rw (c .before .before .lift .ensures) (raise-more _ _ (l .worth) (l .v) _ (omega (arith, l .inv .1 .long)) (l .inv .1)))
 
 same-length : tie.Need-same-length Inv-loop μ-loop
 same-length c = c .before .loop .inv .1 .long
@@ -70,14 +57,9 @@ raise-spec =
     Inv-loop
     μ-loop
     loop-holds
-    mul-worth
-    slice-read-worth
-    mul-short
-    element-copy-out-short
-    short-requires
-    add-worth
-    mul-worth-2
-    slice-write-worth
+    mul-lift
+    element-copy-out-lift
+    lift-requires
     add-v
     loop-less
     loop-again
