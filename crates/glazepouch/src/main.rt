@@ -1,0 +1,85 @@
+// `glazepouch`: the engineer's program. Each command reads its files, asks the proved library, and says the answer in words.
+mod answers;
+mod chart;
+mod gap_ratio;
+mod marks;
+mod out;
+mod refusals;
+mod schedule;
+mod solving;
+mod step;
+mod svg;
+mod words;
+
+use disk::Loaded;
+use model::Requests;
+use out::part;
+use words::Command;
+
+// A byte more than the longest sound trace has, so that a longer file is seen to be too long.
+const TRACE_ROOM: usize = 8 * Requests::MAX + 13;
+
+// The same of the longest sound plan.
+const PLAN_ROOM: usize = 5 * Requests::MAX + 17;
+
+// The two buffers serve every command, and each command has a call of its own, so that the solver finds little on the stack.
+fn main() {
+    let mut trace = [0u8; TRACE_ROOM];
+    let mut plan = [0u8; PLAN_ROOM];
+    match words::asked() {
+        Command::Least => solving::least(&mut trace, &mut plan),
+        Command::Solve => solving::solve(&mut trace, &mut plan),
+        Command::Judge => on_plan(Command::Judge, &mut trace, &mut plan),
+        Command::Audit => on_plan(Command::Audit, &mut trace, &mut plan),
+        Command::Floor => on_plan(Command::Floor, &mut trace, &mut plan),
+        Command::Schedule => on_plan(Command::Schedule, &mut trace, &mut plan),
+        Command::Chart => on_plan(Command::Chart, &mut trace, &mut plan),
+        Command::Ratio => gap_ratio::print(),
+        Command::Unknown => help(),
+    }
+    ;
+}
+
+// The commands on a trace and a plan. What can't be loaded has been said.
+fn on_plan(asked: Command, trace: &mut [u8; TRACE_ROOM], plan: &mut [u8; PLAN_ROOM]) -> bool {
+    let Loaded::Bytes(n) = disk::load_argument(2, trace) else {
+        return false;
+    };
+    let Loaded::Bytes(m) = disk::load_argument(3, plan) else {
+        return false;
+    };
+    answered(asked, part(trace, n), part(plan, m))
+}
+
+fn answered(asked: Command, trace: &[u8], plan: &[u8]) -> bool {
+    match asked {
+        Command::Judge => answers::judged(trace, plan),
+        Command::Audit => answers::audited(trace, plan),
+        Command::Floor => answers::floored(trace, plan),
+        Command::Schedule => schedule::print(trace, plan),
+        Command::Chart => chart::print(trace, plan),
+        _ => help(),
+    }
+}
+
+fn help() -> bool {
+    said(b"glazepouch least TRACE             the least cost\n")
+        && said(
+            b"glazepouch solve TRACE PLAN        a plan of least cost, written to the file PLAN\n",
+        )
+        && said(
+            b"glazepouch judge TRACE PLAN        whether nothing allowed is cheaper than the plan\n",
+        )
+        && said(
+            b"glazepouch audit TRACE PLAN        its total cost, read misses, fills and write hits\n",
+        )
+        && said(b"glazepouch floor TRACE PLAN        the floor of its rents\n")
+        && said(b"glazepouch schedule TRACE PLAN     what each request pays and why, a line each\n")
+        && said(b"glazepouch chart TRACE PLAN        a picture of what is held when, as SVG\n")
+        && said(b"glazepouch ratio LEAST MEASURED    how far a measured cost is above the least\n")
+        && said(b"for example: glazepouch schedule samples/A1.trace samples/A1.plan\n")
+}
+
+fn said(line: &[u8]) -> bool {
+    io::write_all(libc::STDERR_FILENO, line)
+}
