@@ -1,20 +1,11 @@
 // `glazepouch`: the engineer's program. Each command reads its files, asks the proved library, and says the answer in words.
-mod answers;
-mod chart;
-mod gap_ratio;
-mod marks;
-mod out;
-mod refusals;
-mod schedule;
 mod solving;
-mod step;
-mod svg;
 mod words;
 
 use disk::Loaded;
 use model::Requests;
-use out::part;
 use words::Command;
+use words::Number;
 
 // A byte more than the longest sound trace has, so that a longer file is seen to be too long.
 const TRACE_ROOM: usize = 8 * Requests::MAX + 13;
@@ -34,7 +25,7 @@ fn main() {
         Command::Floor => on_plan(Command::Floor, &mut trace, &mut plan),
         Command::Schedule => on_plan(Command::Schedule, &mut trace, &mut plan),
         Command::Chart => on_plan(Command::Chart, &mut trace, &mut plan),
-        Command::Ratio => gap_ratio::print(),
+        Command::Ratio => on_costs(),
         Command::Unknown => help(),
     }
     ;
@@ -53,33 +44,48 @@ fn on_plan(asked: Command, trace: &mut [u8; TRACE_ROOM], plan: &mut [u8; PLAN_RO
 
 fn answered(asked: Command, trace: &[u8], plan: &[u8]) -> bool {
     match asked {
-        Command::Judge => answers::judged(trace, plan),
-        Command::Audit => answers::audited(trace, plan),
-        Command::Floor => answers::floored(trace, plan),
-        Command::Schedule => schedule::print(trace, plan),
-        Command::Chart => chart::print(trace, plan),
+        Command::Judge => answers::put_judged(trace, plan),
+        Command::Audit => answers::put_audited(trace, plan),
+        Command::Floor => answers::put_floor(trace, plan),
+        Command::Schedule => views::put_schedule(trace, plan),
+        Command::Chart => views::put_chart(trace, plan),
         _ => help(),
     }
 }
 
+// The command on two costs. What is no number has been said.
+fn on_costs() -> bool {
+    let Number::Is(least) = words::read(2) else {
+        return false;
+    };
+    let Number::Is(measured) = words::read(3) else {
+        return false;
+    };
+    answers::put_ratio(least, measured)
+}
+
+// The first n bytes, or all where there are fewer.
+fn part(s: &[u8], n: usize) -> &[u8] {
+    if n <= s.len() {
+        return &s[..n];
+    }
+    s
+}
+
 fn help() -> bool {
-    said(b"glazepouch least TRACE             the least cost\n")
-        && said(
-            b"glazepouch solve TRACE PLAN        a plan of least cost, written to the file PLAN\n",
-        )
-        && said(
-            b"glazepouch judge TRACE PLAN        whether nothing allowed is cheaper than the plan\n",
-        )
-        && said(
-            b"glazepouch audit TRACE PLAN        its total cost, read misses, fills and write hits\n",
-        )
-        && said(b"glazepouch floor TRACE PLAN        the floor of its rents\n")
-        && said(b"glazepouch schedule TRACE PLAN     what each request pays and why, a line each\n")
-        && said(b"glazepouch chart TRACE PLAN        a picture of what is held when, as SVG\n")
-        && said(b"glazepouch ratio LEAST MEASURED    how far a measured cost is above the least\n")
+    said(
+        b"glazepouch least TRACE             the least cost\n\
+            glazepouch solve TRACE PLAN        a plan of least cost, written to the file PLAN\n\
+            glazepouch judge TRACE PLAN        whether nothing allowed is cheaper than the plan\n\
+            glazepouch audit TRACE PLAN        its total cost, read misses, fills and write hits\n\
+            glazepouch floor TRACE PLAN        the floor of its rents\n\
+            glazepouch schedule TRACE PLAN     what each request pays and why, a line each\n\
+            glazepouch chart TRACE PLAN        a picture of what is held when, as SVG\n\
+            glazepouch ratio LEAST MEASURED    how far a measured cost is above the least\n",
+    )
         && said(b"for example: glazepouch schedule samples/A1.trace samples/A1.plan\n")
 }
 
-fn said(line: &[u8]) -> bool {
-    io::write_all(libc::STDERR_FILENO, line)
+fn said(lines: &[u8]) -> bool {
+    io::write_all(libc::STDERR_FILENO, lines)
 }

@@ -1,10 +1,9 @@
 // `least` and `solve`: the least cost of a trace, and a plan file that proves it.
-use crate::answers::named;
-use crate::out::Out;
-use crate::out::part;
-use crate::refusals;
+use crate::part;
 use disk::Loaded;
 use model::Refusal;
+use sentences::put;
+use sentences::put_refusal;
 use solver::Solved;
 
 // What came of solving: the least cost, a refusal, or that a file could not be written, which has been said.
@@ -52,8 +51,8 @@ fn solved(
 
 fn said(done: Done) -> bool {
     match done {
-        Done::Least(cost) => named(Out::new(), b"least ", cost).end(),
-        Done::Refused(r) => refusals::print(r, 0),
+        Done::Least(cost) => put(b"least @\n", &[cost]),
+        Done::Refused(r) => put_refusal(r, 0),
         Done::Failed => false,
     }
 }
