@@ -5,24 +5,20 @@ use native.Mathlib.Omega.{arith}
 use mathlib.Core.Bool.{Bool, true, false}
 use mathlib.Core.List.{List}
 use lib.Dec.{ltb}
-use lib.ListN.{length, drop, replicate, length-append, length-drop, length-replicate}
+use lib.ListN.{length}
 use borrow.Author.Tests.{lt-ltb, le-ltb}
 use Rattle.model.specs.Numbers.{maxRequests}
-use Rattle.model.specs.Links.{nextOf, prevOf, listed}
-use Rattle.model.specs.Refusals.{Tried, passes, refusal, row}
+use Rattle.model.specs.Refusals.{passes, refusal, row}
 use Rattle.model.specs.declared.Refusal.{Refusal}
-use Rattle.model.proofs.Links.{length-listed}
 use Rattle.model.proofs.Refusals.{answer-fine, answer-refused}
-use Rattle.trace.specs.TraceFile.{requestsAt, traceTried, traceIn}
+use Rattle.trace.specs.TraceFile.{requestsAt, traceTried}
 use Rattle.trace.specs.Answers.{headerIn}
 use Rattle.trace.specs.declared.Header.{Header}
 use Rattle.trace.specs.declared.Checked.the-variants as checked
-use Rattle.trace.proofs.Sound.{sound-trace, reqs-length}
+use Rattle.trace.proofs.Sound.{sound-trace}
 use Rattle.plan.specs.PlanFile.{shapeOf, lengthOf}
-use Rattle.links.specs.Linked.{nexts, prevs, laid}
-use Rattle.links.specs.Promise.{Filled}
-use Rattle.links.proofs.Answered.{next-at, prev-at}
-use Rattle.solver.specs.Planned.{Ready}
+use Rattle.opening.specs.Opened.{Opened}
+use Rattle.steps.specs.Ready.{Ready}
 use Rattle.solver.specs.Solve.{solveTried, Accepted, Promise}
 use Rattle.solver.specs.declared.Solved.{Solved}
 use Rattle.solver.specs.declared.Solved.the-variants as solved
@@ -49,41 +45,26 @@ module _ (trace : List ℕ) (room : ℕ) where
 
 -- ---- a trace that is refused
 
-pub refused-permitted : {trace next₀ prev₀ next prev : List ℕ} {r : Refusal} (buffer : List ℕ) → Filled trace next₀ prev₀ (checked.Refused r) next prev
-    → Promise trace buffer (solved.Refused r) buffer
+pub refused-permitted : {trace from₀ charges₀ worth₀ from charges worth : List ℕ} {r : Refusal} (buffer : List ℕ)
+    → Opened trace from₀ charges₀ worth₀ (checked.Refused r) from charges worth → Promise trace buffer (solved.Refused r) buffer
 refused-permitted {trace} {r = r} buffer f =
     rw (tried-refused trace (length buffer) (r .number) (r .place) (answer-refused (traceTried trace) (headerIn trace) (r .number) (r .place) (f .answer)))
     (refl, refl)
 
 -- ---- a sound one
 
--- what is laid in front of a list leaves it as long
-length-laid : (t : Tried) (new old : List ℕ) → length new ≤ length old → length (laid t new old) ≡ length old
-length-laid passes new old l = omega (arith, length-append new (drop (length new) old), length-drop (length new) old)
-length-laid (refusal number place) new old l = refl
-
-module _ {trace next prev : List ℕ} {h : Header} (f : Filled trace (replicate 1024 0) (replicate 1024 0) (checked.Sound h) next prev) where
+module _ {trace from₀ charges₀ worth₀ from charges worth : List ℕ} {h : Header} (f : Opened trace from₀ charges₀ worth₀ (checked.Sound h) from charges worth) where
   passed : traceTried trace ≡ passes
   passed = answer-fine (traceTried trace) (headerIn trace) h (f .answer) .0
 
   counted : h .requests ≡ requestsAt trace
   counted = ap (λ (x : Header). x .requests) (answer-fine (traceTried trace) (headerIn trace) h (f .answer) .1)
 
-  pub filled-few : h .requests ≤ maxRequests
-  filled-few = rw counted (sound-trace trace passed .requests)
+  pub opened-header : h ≡ headerIn trace
+  opened-header = answer-fine (traceTried trace) (headerIn trace) h (f .answer) .1
 
-  -- the lists are as long as they were
-  laid-long : (g : ℕ → ℕ) → length (listed g (length (traceIn trace .reqs)) 0) ≤ length (replicate {A = ℕ} 1024 0)
-  laid-long g =
-      omega (arith, length-replicate {A = ℕ} 1024 0, length-listed g (length (traceIn trace .reqs)) 0, reqs-length trace, counted, filled-few)
-
-  pub next-long : length next ≡ 1024
-  next-long =
-      rw (f .nexts) (length-laid (traceTried trace) (nexts (traceIn trace .reqs)) (replicate 1024 0) (laid-long (nextOf (traceIn trace .reqs))) ∙ length-replicate {A = ℕ} 1024 0)
-
-  pub prev-long : length prev ≡ 1024
-  prev-long =
-      rw (f .prevs) (length-laid (traceTried trace) (prevs (traceIn trace .reqs)) (replicate 1024 0) (laid-long (prevOf (traceIn trace .reqs))) ∙ length-replicate {A = ℕ} 1024 0)
+  pub opened-few : h .requests ≤ maxRequests
+  opened-few = rw counted (sound-trace trace passed .requests)
 
   module _ (buffer : List ℕ) where
     -- a buffer that is too short is refused
@@ -92,13 +73,14 @@ module _ {trace next prev : List ℕ} {h : Header} (f : Filled trace (replicate 
 
     module _ (room : 16 + 5 * h .requests ≤ length buffer) where
       -- into any other the plan can be written
-      pub filled-ready : Ready trace next prev buffer
-      filled-ready = record {
+      pub opened-ready : length worth₀ ≡ 2050 → Ready trace from charges worth buffer
+      opened-ready long = record {
         sound = passed;
-        nexts = λ t l. rw (f .nexts) (next-at trace (replicate 1024 0) t passed l);
-        prevs = λ t l. rw (f .prevs) (prev-at trace (replicate 1024 0) t passed l);
-        next-long = next-long;
-        prev-long = prev-long;
+        from₀ = from₀;
+        charges₀ = charges₀;
+        worth₀ = worth₀;
+        lists = f .sound passed;
+        worth-long = f .sound passed .started .told (sound-trace trace passed .requests) .long ∙ long;
         room = omega (arith, counted);
       }
 

@@ -1,14 +1,13 @@
 // The solver: for every sound trace a plan that the judge accepts. It uses only the promises of the lower crates.
 use model::Refusal;
+use opening::begin;
 use trace::Checked;
 ghost use Rattle.solver.specs.Solve.{Promise};
 
 mod output;
 mod search;
 mod slots;
-mod start;
 mod walk;
-mod ways;
 
 // What solving answers: the least cost of the trace.
 pub enum Solved {
@@ -20,19 +19,19 @@ pub enum Solved {
 pub fn solve(trace: &[u8], buffer: &mut [u8]) -> Solved
     ensures { λ r. ⌜ Promise (now (trace .entry)) (now (buffer .entry)) r (now (buffer .exit)) ⌝ }
 {
-    let mut next = [0u16; 1024];
-    let mut prev = [0u16; 1024];
-    match links::fill(trace, &mut next, &mut prev) {
+    let mut from = [1u16; 6150];
+    let mut charges = [1u32; 1024];
+    let mut worth = [1u32; 2050];
+    match begin(trace, &mut from, &mut charges, &mut worth) {
         Checked::Refused(r) => Solved::Refused(r),
         Checked::Sound(h) => {
-            let n = h.requests;
-            if buffer.len() < 16 + 5 * n {
+            if buffer.len() < 16 + 5 * h.requests {
                 return Solved::Refused(Refusal {
                     number: 19,
                     place: 0,
                 });
             }
-            output::write_least(trace, &next, &prev, buffer)
+            output::write_least(trace, h, &from, &charges, &mut worth, buffer)
         }
     }
 }

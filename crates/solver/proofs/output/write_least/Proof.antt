@@ -1,82 +1,64 @@
--- The lists are read, the slots laid on them, and the plan that they make is written: no row holds against it.
-use mathlib.Core.Path.{sym, ap}
-use Prim.Native.Nat.{_≤_}
-use native.Mathlib.Omega.{arith}
-use lib.Seq.{length-take-le}
-use Rattle.writer.specs.Write.{said}
-use Rattle.solver.proofs.Planned.{kinds-none, costs-none, ready-few, ready-unlaid, laid-proving, proving-written, proving-laid}
+-- The slots are laid, and the plan that they make is written: no row holds against it.
 use borrow.Author.Needs.{needs}
+use mathlib.Core.Path.{_≡_, sym, ap, _∙_}
+use Prim.Native.Nat.{ℕ, _≤_}
+use native.Mathlib.Omega.{arith}
+use denote.Ref.{now}
+use lib.ListN.{length-replicate}
+use lib.Seq.{length-take-le}
+use Rattle.trace.specs.TraceFile.{requestsAt, slotsAt, fillAt}
+use Rattle.trace.specs.declared.Header.{Header}
+use Rattle.writer.specs.Write.{said}
+use Rattle.steps.proofs.Laying.{ready-few, ready-slots, ready-fill, ready-laid}
+use Rattle.solver.proofs.Planned.{laid-proving, proving-written, proving-laid}
 use Rattle.solver.proofs.output.write_least.Statement.{statement}
 use Rattle.solver.proofs.output.write_least.Tie as tie
 
-requests-requires : tie.Need-requests-requires
-requests-requires c κs = search needs
+-- what the header says
+requests : (c : tie.Start) → c .args .h .requests ≡ requestsAt (now (c .args .trace))
+requests c = ap (λ (h : Header). h .requests) (c .pre .1)
 
-slice-aggregate-kinds-of : tie.Need-slice-aggregate-kinds-of
-slice-aggregate-kinds-of c = search needs
+slots : (c : tie.Start) → c .args .h .slots ≡ slotsAt (now (c .args .trace))
+slots c = ap (λ (h : Header). h .slots) (c .pre .1)
 
-kinds-of-requires : tie.Need-kinds-of-requires
-kinds-of-requires c κs = (kinds-none _, omega (arith, c .before .requests .ensures .0, ready-few (c .before .before .before .before .before .before .pre)))
+price : (c : tie.Start) → c .args .h .fill ≡ fillAt (now (c .args .trace))
+price c = ap (λ (h : Header). h .fill) (c .pre .1)
 
-slice-aggregate-costs-of : tie.Need-slice-aggregate-costs-of
-slice-aggregate-costs-of c = search needs
+few : (c : tie.Start) → c .args .h .requests ≤ 1024
+few c = omega (arith, requests c, ready-few (c .pre .0))
 
-costs-of-requires : tie.Need-costs-of-requires
-costs-of-requires c κs = (costs-none _, omega (arith, c .before .before .before .before .requests .ensures .0, ready-few (c .before .before .before .before .before .before .before .before .before .pre)))
+-- the way back from the rents to the entry
+abbrev entry : tie.After-rents → tie.Start
+entry c = c .before .before .before .before .before .before .before .before .before .before
 
-fill-requires : tie.Need-fill-requires
-fill-requires c κs = search needs
-
-slots-requires : tie.Need-slots-requires
-slots-requires c κs = search needs
+cast-fill : tie.Need-cast-fill
+cast-fill c = let s = c .before .before .before in omega (arith, price s, ready-fill (s .pre .0))
 
 cast-w : tie.Need-cast-w
-cast-w c = search needs
-
-slice-aggregate-lay : tie.Need-slice-aggregate-lay
-slice-aggregate-lay c = search needs
-
-slice-aggregate-lay-2 : tie.Need-slice-aggregate-lay-2
-slice-aggregate-lay-2 c = search needs
-
-slice-aggregate-lay-3 : tie.Need-slice-aggregate-lay-3
-slice-aggregate-lay-3 c = search needs
-
-slice-aggregate-lay-4 : tie.Need-slice-aggregate-lay-4
-slice-aggregate-lay-4 c = search needs
+cast-w c = let s = c .before .before .before .before in omega (arith, slots s, ready-slots (s .pre .0))
 
 lay-requires : tie.Need-lay-requires
 lay-requires c κs =
-    ready-unlaid (c .before .before .before .before .before .before .before .before .before .before .before .before .before .before .before .before .before .pre) _ _ _ _ _ _ (c .before .before .before .before .before .before .before .before .before .before .before .before .requests .ensures .0) (c .before .before .before .before .slots .ensures .0) (c .before .before .before .before .before .fill .ensures .0)
-    (c .before .before .before .before .before .before .before .before .before .before .kinds-of .ensures) (c .before .before .before .before .before .before .before .costs-of .ensures) (search needs)
-
-slice-aggregate-rents : tie.Need-slice-aggregate-rents
-slice-aggregate-rents c = search needs
-
-slice-aggregate-rents-2 : tie.Need-slice-aggregate-rents-2
-slice-aggregate-rents-2 c = search needs
+    let s = c .before .before .before .before .before .before in
+    let l = ready-laid (s .pre .0) _ _ (requests s) (price s) in
+    (l .0, l .1, omega (arith, slots s, ready-slots (s .pre .0)))
 
 rents-requires : tie.Need-rents-requires
-rents-requires c κs =
-    let l = c .before .before .before .before .lay .ensures in
-    let few : c .before .before .before .before .before .before .before .before .before .before .before .before .before .before .before .before .before .requests .result ≤ 1024 = omega (arith, c .before .before .before .before .before .before .before .before .before .before .before .before .before .before .before .before .before .requests .ensures .0, ready-few (c .before .before .before .before .before .before .before .before .before .before .before .before .before .before .before .before .before .before .before .before .before .before .pre)) in
-    (l .1, omega (arith, l .0 .worth-long), few)
+rents-requires c κs = search needs
 
 array-share-prefix-flags : tie.Need-array-share-prefix-flags
-array-share-prefix-flags c = search needs
+array-share-prefix-flags c = omega (arith, few (entry c), c .before .before .before .lay .ensures .0 .flags-long)
 
 slice-aggregate-write : tie.Need-slice-aggregate-write
-slice-aggregate-write c =
-    let few : c .before .before .before .before .before .before .before .before .before .before .before .before .before .before .before .before .before .before .before .before .requests .result ≤ 1024 = omega (arith, c .before .before .before .before .before .before .before .before .before .before .before .before .before .before .before .before .before .before .before .before .requests .ensures .0, ready-few (c .before .before .before .before .before .before .before .before .before .before .before .before .before .before .before .before .before .before .before .before .before .before .before .before .before .pre)) in
-    sym (length-take-le _ _ (omega (arith, c .before .before .before .before .before .before .before .lay .ensures .0 .flags-long)))
+slice-aggregate-write c = let r = c .before in sym (length-take-le _ _ (omega (arith, few (entry r), r .before .before .before .lay .ensures .0 .flags-long)))
 
 array-share-prefix-prices : tie.Need-array-share-prefix-prices
-array-share-prefix-prices c = search needs
+array-share-prefix-prices c = let r = c .before in omega (arith, few (entry r), r .rents .ensures .long, length-replicate {A = ℕ} 1024 1)
 
 slice-aggregate-write-2 : tie.Need-slice-aggregate-write-2
 slice-aggregate-write-2 c =
-    let few : c .before .before .before .before .before .before .before .before .before .before .before .before .before .before .before .before .before .before .before .before .before .requests .result ≤ 1024 = omega (arith, c .before .before .before .before .before .before .before .before .before .before .before .before .before .before .before .before .before .before .before .before .before .requests .ensures .0, ready-few (c .before .before .before .before .before .before .before .before .before .before .before .before .before .before .before .before .before .before .before .before .before .before .before .before .before .before .pre)) in
-    sym (length-take-le _ _ (omega (arith, c .before .before .before .rents .ensures .long)))
+    let r = c .before .before in
+    sym (length-take-le _ _ (omega (arith, few (entry r), r .rents .ensures .long, length-replicate {A = ℕ} 1024 1)))
 
 write-requires : tie.Need-write-requires
 write-requires c κs = search needs
@@ -92,40 +74,28 @@ same-length c = search needs
 
 returns : tie.Need-returns
 returns c =
-    let l = c .before .before .before .before .before .before .before .before .before .before .before .before .before .before .before .lay .ensures in
-    let r = c .before .before .before .before .before .before .before .before .before .before .rents .ensures in
-    let p = laid-proving (c .before .before .before .before .before .before .before .before .before .before .before .before .before .before .before .before .before .before .before .before .slots .ensures .0) (l .0) (l .1) r (r .long) in
-    proving-laid (c .before .before .before .before .before .before .before .before .before .before .before .before .before .before .before .before .before .before .before .before .before .before .before .before .before .before .before .before .before .before .before .before .before .pre) p _ (c .before .before .before .before .before .write .ensures) (ap said (c .before .c .given .1))
+    let r = c .before .before .before .before .before .before .before .before .before in
+    let l = r .before .before .before .lay .ensures in
+    let p = laid-proving (slots (entry r)) (l .0) (l .1) (r .rents .ensures) (r .rents .ensures .long ∙ length-replicate {A = ℕ} 1024 1) in
+    proving-laid (entry r .pre .0) p _ (c .before .before .before .before .before .write .ensures) (ap said (c .before .c .given .1))
 
 same-length-2 : tie.Need-same-length-2
 same-length-2 c = search needs
 
 returns-2 : tie.Need-returns-2
 returns-2 c =
-    let l = c .before .before .before .before .before .before .before .before .before .before .before .before .before .before .before .lay .ensures in
-    let r = c .before .before .before .before .before .before .before .before .before .before .rents .ensures in
-    let p = laid-proving (c .before .before .before .before .before .before .before .before .before .before .before .before .before .before .before .before .before .before .before .before .slots .ensures .0) (l .0) (l .1) r (r .long) in
-    absurd (proving-written (c .before .before .before .before .before .before .before .before .before .before .before .before .before .before .before .before .before .before .before .before .before .before .before .before .before .before .before .before .before .before .before .before .before .pre) p _ _ (c .before .before .before .before .before .write .ensures) (ap said (c .before .r .given .1)))
+    let r = c .before .before .before .before .before .before .before .before .before in
+    let l = r .before .before .before .lay .ensures in
+    let p = laid-proving (slots (entry r)) (l .0) (l .1) (r .rents .ensures) (r .rents .ensures .long ∙ length-replicate {A = ℕ} 1024 1) in
+    absurd (proving-written (entry r .pre .0) p _ _ (c .before .before .before .before .before .write .ensures) (ap said (c .before .r .given .1)))
 
 pub write-least-spec : {M : Type 1} → statement M
 write-least-spec =
     tie.close
     (tie.spec
-    requests-requires
-    slice-aggregate-kinds-of
-    kinds-of-requires
-    slice-aggregate-costs-of
-    costs-of-requires
-    fill-requires
-    slots-requires
+    cast-fill
     cast-w
-    slice-aggregate-lay
-    slice-aggregate-lay-2
-    slice-aggregate-lay-3
-    slice-aggregate-lay-4
     lay-requires
-    slice-aggregate-rents
-    slice-aggregate-rents-2
     rents-requires
     array-share-prefix-flags
     slice-aggregate-write

@@ -1,127 +1,87 @@
 -- `search::shortest` meets its contract: each turn takes a node from the stack, which is filled from the list when it is empty.
 -- The measure: a turn takes one node from the stack, and puts on it no more than it reaches. Assumes nothing.
-use Prim.Native.Nat.{ℕ, suc, _+_, _*_, _-_}
-use mathlib.Core.Path.{_≡_, sym}
+use Prim.Native.Nat.{ℕ, suc, _+_, _*_, _-_, _≤_, _<_}
+use mathlib.Core.Path.{_≡_}
 use mathlib.Core.Logic.{⊎-elim}
 use native.Mathlib.Omega.{arith}
-use borrow.Author.Needs.{needs}
 use lib.ListN.{length, replicate, length-replicate}
-use Rattle.trace.specs.TraceFile.{traceIn}
-use Rattle.solver.specs.Ways.{waysOf}
-use Rattle.solver.specs.Search.{unranked, Running}
-use Rattle.solver.proofs.SearchTurn.{even-of, run-begin, run-sifts, Ready, ready-stay, ready-takes, ready-taken}
-use Rattle.solver.proofs.SearchFound.{run-found}
-use Rattle.solver.proofs.SearchChain.{net-few, net-chain}
+use Rattle.steps.specs.Search.{waysBy, Runs}
+use Rattle.steps.proofs.SearchTurn.{even-of, runs-begin, Ready, ready-stay, ready-taken}
+use Rattle.steps.proofs.SearchFound.{runs-found}
 use Rattle.solver.proofs.search.shortest.Statement.{statement}
 use Rattle.solver.proofs.search.shortest.Tie as tie
 
 abbrev Inv-loop : tie.InvT-loop
-Inv-loop trace worth flags next prev kinds costs crowds fill n k hop₀ rank₀ s₀ stack₀ list₀ ends₀ current₀ hop rank s stack list ends current =
-    Running (suc (2 * n)) n (waysOf (traceIn trace) k flags worth) (s .dist) hop rank stack list (ends .top) (ends .waiting) current (ends .turn)
+Inv-loop from len n hop₀ s₀ stack₀ list₀ ends₀ current₀ left₀ hop s stack list ends current left =
+    Runs (suc (2 * n)) n (waysBy from len) (s .dist) hop stack list (ends .top) (ends .waiting) current left
 
 abbrev μ-loop : tie.MeasureT-loop
-μ-loop trace worth flags next prev kinds costs crowds fill n k hop₀ rank₀ s₀ stack₀ list₀ ends₀ current₀ hop rank s stack list ends current =
-    2 * (2050 - ends .turn) + ends .top
-
--- the ranks at the start
-rank-long : (c : tie.Start Inv-loop μ-loop) → length (c .args .rank .now) ≡ 2050
-rank-long c = even-of unranked _ (c .pre .1 .1) .long
+μ-loop from len n hop₀ s₀ stack₀ list₀ ends₀ current₀ left₀ hop s stack list ends current left = left
 
 -- where the arms meet, a node stands on the stack
 ready : (c : tie.Joined2 Inv-loop μ-loop) →
     let at-loop = c .before .before .before .before in
-    let a = at-loop .before .before .before .before .before .before .before .before .before .before .before .before .before .args in
-    let l = at-loop .loop in
+    let a = at-loop .before .before .args in
     let j = c .if2 in
-    Ready (suc (2 * a .n)) (a .n) (waysOf (traceIn (a .trace .now)) (a .k) (a .flags .now) (a .worth .now)) (l .s .dist) (l .hop) (j .rank) (j .stack) (j .list)
-    (l .ends .top) (l .ends .turn) (j .ends .top) (j .ends .waiting) (j .current) (j .ends .turn)
+    Ready (suc (2 * a .n)) (a .n) (waysBy (a .from .now) (a .len .now)) (at-loop .loop .s .dist) (at-loop .loop .hop) (j .stack) (j .list)
+    (j .ends .top) (j .ends .waiting) (j .current) (at-loop .loop .left)
 ready c =
     let at-loop = c .before .before .before .before in
     let R = at-loop .loop .inv in
     ⊎-elim
-    (λ w. rw (w .16, w .17, w .18, w .19, w .20) (ready-taken R (w .0 .taken) (c .before .before .if1 .taken) (omega (arith, R .waits .list-long, w .5 .kept)) (w .5 .ensures) (net-chain (at-loop .before .before .before .before .before .before .before .before .before .before .before .before .before .pre .0)) (w .12 .ensures .0) (w .12 .ensures .1)))
-    (λ w. rw (w .1, w .2, w .3, w .4, w .5) (ready-stay R (w .0 .left))) (c .if2 .came)
+    (λ w.
+    let f = w .5 .ensures in
+    rw (w .6, w .7, w .8, w .9)
+    (ready-taken R (c .before .before .if1 .taken) (omega arith) (at-loop .before .before .pre .0 .chain) (w .0 .taken) (f .0) (f .1 .0) (f .1 .1 .0) (f .1 .1 .1 .0) (f .1 .1 .1 .1)))
+    (λ w. rw (w .1, w .2, w .3, w .4) (ready-stay R (w .0 .left))) (c .if2 .came)
 
 fresh-requires : tie.Need-fresh-requires Inv-loop μ-loop
-fresh-requires c κs = search needs
+fresh-requires c κs = tt
 
 mul-s : tie.Need-mul-s Inv-loop μ-loop
-mul-s c = search needs
+mul-s c = omega (arith, c .before .pre .0 .few)
 
 element-write-s : tie.Need-element-write-s Inv-loop μ-loop
-element-write-s c = search needs
-
-mul-rank : tie.Need-mul-rank Inv-loop μ-loop
-mul-rank c = search needs
-
-slice-write-rank : tie.Need-slice-write-rank Inv-loop μ-loop
-slice-write-rank c = omega (arith, rank-long (c .before .before .before .before .before .before .before .before .before .before .before), net-few (c .before .before .before .before .before .before .before .before .before .before .before .pre .0))
+element-write-s c = omega (arith, c .before .pre .0 .few)
 
 cast-stack : tie.Need-cast-stack Inv-loop μ-loop
-cast-stack c = search needs
+cast-stack c = omega (arith, c .before .pre .0 .few)
 
 array-write-stack : tie.Need-array-write-stack Inv-loop μ-loop
-array-write-stack c = search needs
-
-first-requires : tie.Need-first-requires Inv-loop μ-loop
-first-requires c κs = search needs
+array-write-stack c = omega arith
 
 loop-holds : tie.Need-loop-holds Inv-loop μ-loop
 loop-holds c =
-    let at-fresh = c .before in
-    let start = at-fresh .before .before .before .before .before .before .before .before .before .before .before in
-    let zeros = length-replicate {A = ℕ} 2050 0 in
-    rw (c .first .ensures .0, c .first .ensures .1, c .first .ensures .2)
-    (run-begin _ _ _ _ _ _ (replicate 2050 0) _ (net-few (start .pre .0)) (omega arith) (even-of _ _ (at-fresh .fresh .ensures)) (even-of _ _ (start .pre .1 .1)) (start .pre .1 .0) zeros zeros)
+    let start = c .before in
+    let ones = length-replicate {A = ℕ} 2050 1 in
+    runs-begin _ _ _ _ _ (replicate 2050 1) _ (omega (arith, start .pre .0 .few)) (omega arith) (even-of _ _ (c .fresh .ensures)) (start .pre .1) ones ones
 
-slice-read-if1 : tie.Need-slice-read-if1 Inv-loop μ-loop
-slice-read-if1 c = search needs
+element-copy-out-if1 : tie.Need-element-copy-out-if1 Inv-loop μ-loop
+element-copy-out-if1 c = omega arith
 
-slice-aggregate-sift : tie.Need-slice-aggregate-sift Inv-loop μ-loop
-slice-aggregate-sift c = search needs
+cast-if1 : tie.Need-cast-if1 Inv-loop μ-loop
+cast-if1 c = omega (arith, c .before .loop .inv .running .kept .near 0)
 
-sift-requires : tie.Need-sift-requires Inv-loop μ-loop
-sift-requires c κs = run-sifts (c .before .before .before .before .before .before .before .before .loop .inv)
-
-slice-aggregate-take : tie.Need-slice-aggregate-take Inv-loop μ-loop
-slice-aggregate-take c = search needs
-
-slice-aggregate-take-2 : tie.Need-slice-aggregate-take-2 Inv-loop μ-loop
-slice-aggregate-take-2 c = search needs
-
-take-requires : tie.Need-take-requires Inv-loop μ-loop
-take-requires c κs =
-    let at-sift = c .before .before .before .before .before .before in
-    let at-loop = at-sift .before .before .before .before .before .before .before .before .before in
-    let R = at-loop .loop .inv in
-    ready-takes R (at-sift .before .before .before .before .before .if2 .taken) (at-sift .before .before .before .before .before .before .before .if1 .taken) (omega (arith, R .waits .list-long, at-sift .sift .kept))
-    (at-sift .sift .ensures) (net-chain (at-loop .before .before .before .before .before .before .before .before .before .before .before .before .before .pre .0))
-
-slice-aggregate-spread : tie.Need-slice-aggregate-spread Inv-loop μ-loop
-slice-aggregate-spread c = sym (ready (c .before .before .before .before) .running .kept .stack-long)
-
-slice-aggregate-spread-2 : tie.Need-slice-aggregate-spread-2 Inv-loop μ-loop
-slice-aggregate-spread-2 c = sym (ready (c .before .before .before .before .before) .running .waits .list-long)
+refill-requires : tie.Need-refill-requires Inv-loop μ-loop
+refill-requires c κs = tt
 
 spread-requires : tie.Need-spread-requires Inv-loop μ-loop
-spread-requires c κs = (c .before .before .before .before .before .before .before .before .before .before .before .before .before .before .before .before .before .before .before .before .before .before .pre .0, (ready (c .before .before .before .before .before) .running, ready (c .before .before .before .before .before) .some))
+spread-requires c κs =
+    let joined = c .before .before .before .before in
+    let at = ready joined in
+    (joined .before .before .before .before .before .before .pre .0, at .runs, at .some)
+
+sub-left : tie.Need-sub-left Inv-loop μ-loop
+sub-left c = let at = ready (c .before .before .before .before .before) in omega (arith, at .some, at .runs .bound)
 
 loop-less : tie.Need-loop-less Inv-loop μ-loop
-loop-less c =
-    let at-spread = c .before .before .before .before .before .before in
-    omega (arith, at-spread .spread .ensures .1, at-spread .spread .ensures .0 .kept .counted, ready (c .before .before .before .before .before .before .before .before .before .before .before .before) .less, c .before .before .before .before .before .before .before .before .before .before .before .before .before .before .before .before .loop .inv .kept .counted)
+loop-less c = let at = ready (c .before .before .before .before .before) in omega (arith, at .some, at .runs .bound)
 
 loop-again : tie.Need-loop-again Inv-loop μ-loop
-loop-again c = c .before .before .before .before .before .before .spread .ensures .0
-
-same-length : tie.Need-same-length Inv-loop μ-loop
-same-length c = search needs
-
-same-length-2 : tie.Need-same-length-2 Inv-loop μ-loop
-same-length-2 c = omega (arith, rank-long (c .before .before .before .before .before .before .before .before .before .before .before .before .before .before .before), c .before .before .loop .inv .kept .rank-long)
+loop-again c = c .spread .ensures
 
 returns : tie.Need-returns Inv-loop μ-loop
-returns c = run-found (c .before .before .loop .inv) (c .if1 .left)
+returns c = runs-found (c .before .before .loop .inv) (omega arith) (λ l. omega (arith, c .if1 .left))
 
 pub shortest-spec : {M : Type 1} → statement M
 shortest-spec =
@@ -132,23 +92,14 @@ shortest-spec =
     fresh-requires
     mul-s
     element-write-s
-    mul-rank
-    slice-write-rank
     cast-stack
     array-write-stack
-    first-requires
     loop-holds
-    slice-read-if1
-    slice-aggregate-sift
-    sift-requires
-    slice-aggregate-take
-    slice-aggregate-take-2
-    take-requires
-    slice-aggregate-spread
-    slice-aggregate-spread-2
+    element-copy-out-if1
+    cast-if1
+    refill-requires
     spread-requires
+    sub-left
     loop-less
     loop-again
-    same-length
-    same-length-2
     returns)

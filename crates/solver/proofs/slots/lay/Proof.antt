@@ -1,96 +1,58 @@
 -- The loop's invariant: k slots are laid, and the rents are within the limit.
 use borrow.Author.Needs.{needs}
-use mathlib.Core.Path.{_≡_, sym, _∙_}
+use mathlib.Core.Path.{_≡_}
 use Prim.Native.Nat.{_-_, _≤_}
 use native.Mathlib.Omega.{arith}
 use native.Mathlib.Numerals.{add-one}
-use Rattle.trace.specs.TraceFile.{traceIn}
-use Rattle.solver.specs.Slots.{Laid, Cheap}
-use Rattle.solver.proofs.Laying.{laid-more, laid-cheap, unlaid-opening, start-laid, start-cheap}
+use Rattle.steps.specs.Slots.{Laid, Cheap}
+use Rattle.steps.proofs.Laying.{laid-few, laid-more, laid-cheap}
 use Rattle.solver.proofs.slots.lay.Statement.{statement}
 use Rattle.solver.proofs.slots.lay.Tie as tie
 
 abbrev Inv-loop : tie.InvT-loop
-Inv-loop trace worth₀ flags₀ next prev kinds costs fill n w k₀ worth flags k = (k ≤ w) × Laid (traceIn trace) n k fill worth flags next prev kinds costs × Cheap n worth
+Inv-loop trace from charges worth₀ flags₀ n fill w len₀ k₀ worth flags len k =
+    (k ≤ w) × (w ≤ 64) × Laid trace n fill k worth flags from charges × Cheap n worth
 
 abbrev μ-loop : tie.MeasureT-loop
-μ-loop trace worth₀ flags₀ next prev kinds costs fill n w k₀ worth flags k = w - k
-
--- the way back from the loop's head to the entry
-abbrev entry : tie.At-loop Inv-loop μ-loop → tie.Start Inv-loop μ-loop
-entry c = c .before .before .before .before .before .before .before .before .before .before .before .before
-
-start-requires : tie.Need-start-requires Inv-loop μ-loop
-start-requires c κs = (unlaid-opening (c .before .before .before .before .before .before .before .before .pre), c .before .before .before .before .before .before .before .before .pre .worth-long)
+μ-loop trace from charges worth₀ flags₀ n fill w len₀ k₀ worth flags len k = w - k
 
 loop-holds : tie.Need-loop-holds Inv-loop μ-loop
-loop-holds c =
-    let u = c .before .before .before .before .before .before .before .before .before .before .before .pre in
-    (omega arith, start-laid u _ (c .before .before .start .ensures) (search needs), start-cheap u _ (c .before .before .start .ensures))
+loop-holds c = let p = c .before .pre in (omega arith, p .2, p .0, p .1)
 
-slice-read-if1 : tie.Need-slice-read-if1 Inv-loop μ-loop
-slice-read-if1 c = omega (arith, c .before .before .loop .inv .1 .worth-long)
+element-copy-out-if1 : tie.Need-element-copy-out-if1 Inv-loop μ-loop
+element-copy-out-if1 c = search needs
 
 mul-if1 : tie.Need-mul-if1 Inv-loop μ-loop
-mul-if1 c = let l = c .before .before .loop .inv .1 in omega (arith, l .size, l .lists .within .requests)
+mul-if1 c = omega (arith, laid-few (c .before .before .loop .inv .2))
 
-slice-read-if1-2 : tie.Need-slice-read-if1-2 Inv-loop μ-loop
-slice-read-if1-2 c = let l = c .before .before .before .loop .inv .1 in omega (arith, l .worth-long, l .size, l .lists .within .requests)
-
-same-length : tie.Need-same-length Inv-loop μ-loop
-same-length c = let l = c .before .before .before .before in l .loop .inv .1 .worth-long ∙ sym (entry l .pre .worth-long)
-
-same-length-2 : tie.Need-same-length-2 Inv-loop μ-loop
-same-length-2 c = let l = c .before .before .before .before in l .loop .inv .1 .flags-long ∙ sym (entry l .pre .flags-long)
+element-copy-out-if1-2 : tie.Need-element-copy-out-if1-2 Inv-loop μ-loop
+element-copy-out-if1-2 c = omega (arith, laid-few (c .before .before .loop .inv .2))
 
 returns : tie.Need-returns Inv-loop μ-loop
-returns c =
-    let l = c .before .before .before .before in
-    (laid-more (l .loop .inv .1) _ (l .loop .inv .0) (entry l .pre .few) (c .if1 .taken), l .loop .inv .2)
+returns c = let i = c .before .before .before .before .loop .inv in (laid-more (i .2) _ (i .0) (i .1) (c .if1 .taken), i .3)
 
 more-requires : tie.Need-more-requires Inv-loop μ-loop
-more-requires c κs = let l = c .before .before .before .before .before .before in (l .loop .inv .1, omega (arith, entry l .pre .few))
+more-requires c κs = let i = c .before .before .before .before .before .before .before .loop .inv in (i .2, omega (arith, i .1, c .before .before .before .before .before .before .loop-test .taken))
 
 add-k : tie.Need-add-k Inv-loop μ-loop
-add-k c = omega (arith, entry (c .before .before .before .before .before .before .before .before .before .before .before) .pre .few)
+add-k c = let i = c .before .before .before .before .before .before .before .before .loop .inv in omega (arith, i .0, i .1)
 
 loop-less : tie.Need-loop-less Inv-loop μ-loop
 loop-less c = search needs
 
 loop-again : tie.Need-loop-again Inv-loop μ-loop
 loop-again c =
-    let m = c .before .before .before .before .more .ensures in (omega arith, rw add-one m, laid-cheap m (omega arith))
-
-same-length-3 : tie.Need-same-length-3 Inv-loop μ-loop
-same-length-3 c = c .before .loop .inv .1 .worth-long ∙ sym (entry (c .before) .pre .worth-long)
-
-same-length-4 : tie.Need-same-length-4 Inv-loop μ-loop
-same-length-4 c = c .before .loop .inv .1 .flags-long ∙ sym (entry (c .before) .pre .flags-long)
+    let m = c .more .ensures in
+    let i = c .before .before .before .before .before .before .before .before .loop .inv in
+    (omega (arith, c .before .before .before .before .before .before .before .loop-test .taken), i .1, rw add-one m, laid-cheap m (omega arith))
 
 returns-2 : tie.Need-returns-2 Inv-loop μ-loop
 returns-2 c =
-    let l = c .before in
-    let e : l .loop .k ≡ entry l .args .w = omega arith in
-    (rw e at (l .loop .inv .1), l .loop .inv .2)
+    let l = c .before .loop in
+    let e : l .k ≡ c .before .before .before .args .w = omega (arith, l .inv .0, c .loop-test .left) in
+    (rw e at (l .inv .2), l .inv .3)
 
 pub lay-spec : {M : Type 1} → statement M
 lay-spec =
     tie.close
-    (tie.spec
-    Inv-loop
-    μ-loop
-    start-requires
-    loop-holds
-    slice-read-if1
-    mul-if1
-    slice-read-if1-2
-    same-length
-    same-length-2
-    returns
-    more-requires
-    add-k
-    loop-less
-    loop-again
-    same-length-3
-    same-length-4
-    returns-2)
+    (tie.spec Inv-loop μ-loop loop-holds element-copy-out-if1 mul-if1 element-copy-out-if1-2 returns more-requires add-k loop-less loop-again returns-2)
