@@ -11,10 +11,11 @@ use Rattle.links.specs.Linked.{nextsIn, prevsIn}
 use Rattle.ways.specs.Promise.{Sourced, Charged}
 use Rattle.worths.specs.Worths.{Started}
 
--- the next and the previous requests of a trace's requests
+-- the next requests of a trace's requests
 abbrev pub nextsOf : (trace : List ℕ) → List ℕ
 nextsOf trace = nextsIn trace (replicate 1024 0)
 
+-- the previous ones
 abbrev pub prevsOf : (trace : List ℕ) → List ℕ
 prevsOf trace = prevsIn trace (replicate 1024 0)
 

@@ -1,16 +1,15 @@
 -- What the raising of worths, the walk and each slot more ask and promise of the solver's lists. Assumes nothing.
 use mathlib.Core.Path.{_≡_}
-use Prim.Native.Nat.{ℕ, suc, _+_, _*_, _-_, _≤_, _<_, max}
-use mathlib.Core.Bool.{true, cond, _&&_}
+use Prim.Native.Nat.{ℕ, suc, _+_, _*_, _-_, _≤_, _<_}
+use mathlib.Core.Bool.{cond, _&&_}
 use mathlib.Core.List.{List}
 use lib.Dec.{ltb}
 use lib.ListN.{length, getD, set}
 use Rattle.model.specs.Model.{Trace}
-use Rattle.model.specs.Numbers.{maxCost, maxRent}
+use Rattle.model.specs.Numbers.{maxRent}
 use Rattle.model.specs.Plans.{flagsIn}
-use Rattle.model.specs.Links.{prevOf}
 use Rattle.trace.specs.TraceFile.{traceIn}
-use Rattle.network.specs.Sound.{count, next, reads, after, crowd, ahead, Sound, Residual}
+use Rattle.network.specs.Sound.{count, Sound, Residual}
 use Rattle.steps.specs.Lists.{Lists, pointsIn, requestsIn, Fits}
 use Rattle.steps.specs.Search.{Reached}
 

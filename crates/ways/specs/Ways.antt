@@ -12,10 +12,11 @@ use Rattle.trace.specs.TraceFile.{requestsAt, fillAt, kindAt, costAt}
 abbrev pub closed : ℕ
 closed = 4294967295
 
--- sums and differences of four bytes
+-- a sum of four bytes
 abbrev pub plus : ℕ → ℕ → ℕ
 plus a b = (a + b) % 4294967296
 
+-- a difference of four bytes
 abbrev pub minus : ℕ → ℕ → ℕ
 minus a b = (a + 4294967296 - b) % 4294967296
 
@@ -49,17 +50,19 @@ writes c = eqb (c % 2) 1
 
 -- ---- how long ways are
 
--- the node of the next request of request t's item, and of the previous one, as the list of sources has them
+-- the node of the next request of request t's item, as the list of sources has it
 abbrev pub aheadOf : (from : List ℕ) → (n t : ℕ) → ℕ
 aheadOf from n t = getD from (3 * (n + 1 + t)) 0
 
+-- the node of the previous one
 abbrev pub behindOf : (from : List ℕ) → (n t : ℕ) → ℕ
 behindOf from n t = getD from (3 * (n + 1 + t) + 1) 0
 
--- whether there is one
+-- whether there is a next one
 abbrev pub follows : (from : List ℕ) → (n t : ℕ) → Bool
 follows from n t = ltb (n + 1 + t) (aheadOf from n t) && ltb (aheadOf from n t) (suc (2 * n))
 
+-- whether there is a previous one
 abbrev pub precedes : (from : List ℕ) → (n t : ℕ) → Bool
 precedes from n t = ltb n (behindOf from n t) && ltb (behindOf from n t) (n + 1 + t)
 
