@@ -1,35 +1,52 @@
-// The one line that a program prints as its answer. Each call answers whether all of it was written;
-// where it was not, the reason has been said on standard error.
-use libc::STDOUT_FILENO;
-use model::Refusal;
+// The one line that a program prints as its answer, laid from the start of a lent page. Each call answers how long the line is.
 ghost use mathlib.Core.Path.{_≡_};
+ghost use lib.ListN.{take};
+ghost use Rattle.pages.specs.Pages.{Lies};
+ghost use Rattle.lines.specs.Lines.{leastLine, acceptedLine, refusedLine};
+use model::Refusal;
 
-// `WORD C`, C in decimal digits.
-pub fn print_cost(word: &[u8], cost: u64) -> bool {
-    said(put(word) && put(b" ") && io::print_decimal(STDOUT_FILENO, cost) && put(b"\n"))
+// Room for every line: the longest is `refused N at P` with twenty digits each, 53 bytes.
+pub const ROOM: usize = 64;
+
+// `least C`.
+pub fn least(cost: u64, line: &mut [u8; ROOM]) -> usize
+    ensures { λ r. ⌜ Lies (leastLine cost) (now (line .entry)) r (now (line .exit)) ⌝ }
+{
+    let word = pages::bytes(line, 0, b"least ");
+    let digits = decimal::lay(line, word, cost);
+    pages::byte(line, digits, b'\n')
+}
+
+// `accepted C`.
+pub fn accepted(cost: u64, line: &mut [u8; ROOM]) -> usize
+    ensures { λ r. ⌜ Lies (acceptedLine cost) (now (line .entry)) r (now (line .exit)) ⌝ }
+{
+    let word = pages::bytes(line, 0, b"accepted ");
+    let digits = decimal::lay(line, word, cost);
+    pages::byte(line, digits, b'\n')
 }
 
 // `refused N at P`.
-pub fn print_refusal(r: Refusal) -> bool {
-    said(
-        put(b"refused ")
-            && io::print_decimal(STDOUT_FILENO, r.number)
-            && put(b" at ")
-            && io::print_decimal(STDOUT_FILENO, r.place)
-            && put(b"\n"),
-    )
-}
-
-fn put(bytes: &[u8]) -> bool {
-    io::write_all(STDOUT_FILENO, bytes)
-}
-
-// Whether the line was written, which is also said where it was not.
-fn said(written: bool) -> bool
-    ensures { λ r. ⌜ r ≡ written ⌝ }
+pub fn refused(r: Refusal, line: &mut [u8; ROOM]) -> usize
+    ensures { λ n. ⌜ Lies (refusedLine (r .number) (r .place)) (now (line .entry)) n (now (line .exit)) ⌝ }
 {
-    if !written {
-        os::fail(b"standard output");
-    }
-    written
+    refusal(r.number, r.place, line)
+}
+
+// The line itself: the first bytes of the page, as many as a call answered.
+pub fn shown(line: &[u8; ROOM], size: usize) -> &[u8]
+    ensures { λ r. ⌜ now r ≡ take size (now (line .entry)) ⌝ }
+{
+    pages::first(line, size)
+}
+
+// `refused N at P` of two numbers: as parameters they are known to fit their type.
+fn refusal(number: u64, place: u64, line: &mut [u8; ROOM]) -> usize
+    ensures { λ n. ⌜ Lies (refusedLine number place) (now (line .entry)) n (now (line .exit)) ⌝ }
+{
+    let word = pages::bytes(line, 0, b"refused ");
+    let first = decimal::lay(line, word, number);
+    let middle = pages::bytes(line, first, b" at ");
+    let second = decimal::lay(line, middle, place);
+    pages::byte(line, second, b'\n')
 }

@@ -1,0 +1,5 @@
+-- Laws of texts with signs: each sign, the loop over a text, how long it can get, and how a refusal's sentence begins.
+pub mod Signs
+pub mod Laying
+pub mod Fitting
+pub mod Naming
