@@ -85,6 +85,10 @@ lies bs old r new h e =
 pub lies-first : {bs old : List ℕ} {r : ℕ} {new : List ℕ} → Lies bs old r new → take r new ≡ bs
 lies-first {bs} {old} {r} l = rw (l .held) (take-at bs (drop (length bs) old) r (sym (l .size)))
 
+-- what lies there is what it is shown to be
+pub lies-as : {bs cs old : List ℕ} {r : ℕ} {new : List ℕ} → bs ≡ cs → Lies bs old r new → Lies cs old r new
+lies-as e l = rw e at l
+
 -- two answers that may be given are the same
 pub lies-once : {bs old : List ℕ} {r s : ℕ} {new new' : List ℕ} → Lies bs old r new → Lies bs old s new' → (r ≡ s) × (new ≡ new')
 lies-once a b = (a .size ∙ sym (b .size), a .held ∙ sym (b .held))
