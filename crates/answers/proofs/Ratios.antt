@@ -15,7 +15,8 @@ use Rattle.ratio.specs.declared.Gap.the-variants.{NoCost, NoRatio, Ratio}
 use Rattle.pages.specs.Letters.{letters}
 use Rattle.decimal.specs.Decimal.{decimal}
 use Rattle.sentences.specs.Spelled.{shownOf, signOf, spelled}
-use Rattle.answers.specs.Answers.{answerPage, gapPage}
+use Rattle.sentences.specs.Sentences.{answerPage}
+use Rattle.answers.specs.Answers.{gapPage}
 
 -- a least cost of 0 has no quotient
 no-quotient : (measured : ℕ) (q : Float) → Ratio q ≡ cond (eqb measured 0) NoCost NoRatio → ⊥

@@ -85,6 +85,10 @@ lies bs old r new h e =
 pub lies-first : {bs old : List ℕ} {r : ℕ} {new : List ℕ} → Lies bs old r new → take r new ≡ bs
 lies-first {bs} {old} {r} l = rw (l .held) (take-at bs (drop (length bs) old) r (sym (l .size)))
 
+-- nothing lies on a page that is left as it is
+pub lies-none : (old : List ℕ) → Lies [] old 0 old
+lies-none old = record { size = refl; held = refl }
+
 -- what lies there is what it is shown to be
 pub lies-as : {bs cs old : List ℕ} {r : ℕ} {new : List ℕ} → bs ≡ cs → Lies bs old r new → Lies cs old r new
 lies-as e l = rw e at l

@@ -4,6 +4,7 @@ use Prim.Native.String.{String}
 use mathlib.Core.Bool.{cond}
 use mathlib.Core.List.{List, [], _∷_, _++_}
 use lib.Dec.{eqb}
+use Rattle.model.specs.Refusals.{Answer, fine, refused}
 use Rattle.pages.specs.Letters.{letters}
 use Rattle.sentences.specs.Spelled.{spelled}
 
@@ -53,3 +54,8 @@ crowdedPage gap slots =
 unfoldable pub refusalPage : (number place slots : ℕ) → List ℕ
 refusalPage number place slots =
     cond (eqb number 15) (crowdedPage place slots) (spelled sentence (number ∷ place ∷ number ∷ place ∷ []))
+
+-- an answer: the value's page, or the refusal's sentence
+abbrev pub answerPage : {A : Type 0} → (slots : ℕ) → (page : A → List ℕ) → Answer A → List ℕ
+answerPage slots page (fine a) = page a
+answerPage slots page (refused number place) = refusalPage number place slots
