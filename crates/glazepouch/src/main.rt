@@ -1,9 +1,13 @@
 // `glazepouch`: the engineer's program. Each command reads its files, asks the proved library, and says the answer in words.
+mod said;
 mod solving;
 mod words;
 
+use audit::Audited;
 use disk::Loaded;
 use model::Requests;
+use pages::first;
+use said::Part;
 use words::Command;
 use words::Number;
 
@@ -24,7 +28,6 @@ fn main() {
         Command::Audit => on_plan(Command::Audit, &mut trace, &mut plan),
         Command::Floor => on_plan(Command::Floor, &mut trace, &mut plan),
         Command::Schedule => on_plan(Command::Schedule, &mut trace, &mut plan),
-        Command::Chart => on_plan(Command::Chart, &mut trace, &mut plan),
         Command::Ratio => on_costs(),
         Command::Unknown => help(),
     }
@@ -39,18 +42,39 @@ fn on_plan(asked: Command, trace: &mut [u8; TRACE_ROOM], plan: &mut [u8; PLAN_RO
     let Loaded::Bytes(m) = disk::load_argument(3, plan) else {
         return false;
     };
-    answered(asked, part(trace, n), part(plan, m))
+    answered(asked, first(trace, n), first(plan, m))
 }
 
 fn answered(asked: Command, trace: &[u8], plan: &[u8]) -> bool {
     match asked {
-        Command::Judge => answers::put_judged(trace, plan),
-        Command::Audit => answers::put_audited(trace, plan),
-        Command::Floor => answers::put_floor(trace, plan),
-        Command::Schedule => views::put_schedule(trace, plan),
-        Command::Chart => views::put_chart(trace, plan),
+        Command::Judge => said::tell(Part::Judgement, trace, plan),
+        Command::Audit => said::tell(Part::Totals, trace, plan),
+        Command::Floor => said::tell(Part::Floor, trace, plan),
+        Command::Schedule => schedule(trace, plan),
         _ => help(),
     }
+}
+
+// The heading, a line for each request, and the totals; of a plan that the audit refuses, the refusal alone.
+fn schedule(trace: &[u8], plan: &[u8]) -> bool {
+    if let Audited::Refused(_) = audit::audit(trace, plan) {
+        return said::tell(Part::Totals, trace, plan);
+    }
+    said::tell(Part::Heading, trace, plan)
+        && requests(trace, plan)
+        && said::tell(Part::Last, trace, plan)
+}
+
+fn requests(trace: &[u8], plan: &[u8]) -> bool {
+    let n = trace::requests(trace);
+    let mut t: usize = 0;
+    while t < n {
+        if !said::tell(Part::Request(t), trace, plan) {
+            return false;
+        }
+        t += 1;
+    }
+    true
 }
 
 // The command on two costs. What is no number has been said.
@@ -61,19 +85,11 @@ fn on_costs() -> bool {
     let Number::Is(measured) = words::read(3) else {
         return false;
     };
-    answers::put_ratio(least, measured)
-}
-
-// The first n bytes, or all where there are fewer.
-fn part(s: &[u8], n: usize) -> &[u8] {
-    if n <= s.len() {
-        return &s[..n];
-    }
-    s
+    said::ratio(least, measured)
 }
 
 fn help() -> bool {
-    said(
+    told(
         b"glazepouch least TRACE             the least cost\n\
             glazepouch solve TRACE PLAN        a plan of least cost, written to the file PLAN\n\
             glazepouch judge TRACE PLAN        whether nothing allowed is cheaper than the plan\n\
@@ -83,9 +99,9 @@ fn help() -> bool {
             glazepouch chart TRACE PLAN        a picture of what is held when, as SVG\n\
             glazepouch ratio LEAST MEASURED    how far a measured cost is above the least\n",
     )
-        && said(b"for example: glazepouch schedule samples/A1.trace samples/A1.plan\n")
+        && told(b"for example: glazepouch schedule samples/A1.trace samples/A1.plan\n")
 }
 
-fn said(lines: &[u8]) -> bool {
+fn told(lines: &[u8]) -> bool {
     io::write_all(libc::STDERR_FILENO, lines)
 }

@@ -1,0 +1,2 @@
+-- Laws of what `glazepouch` prints.
+pub mod Telling
