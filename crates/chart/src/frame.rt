@@ -27,6 +27,8 @@ pub fn open(s: Sizes) -> bool {
 
 // The totals and what the trace's header says, the legend, and the names of what stands above and below the slot rows.
 pub fn names(s: Sizes, fill: u64, totals: Totals) -> bool {
+    let full = s.below(18);
+    let rent = s.below(36);
     put(
         b"<text class=\"t\" x=\"16\" y=\"24\">cost @: read misses @, fills @, write hits @ \
         (requests @, slots @, fill price @)</text>\n\
@@ -47,8 +49,8 @@ pub fn names(s: Sizes, fill: u64, totals: Totals) -> bool {
             s.requests,
             s.slots,
             fill,
-            s.below(18),
-            s.below(36),
+            full,
+            rent,
         ],
     )
 }
@@ -71,18 +73,11 @@ fn slot(s: Sizes, row: u64) -> bool {
     let name = wrapping_add_u64(y, 14);
     let shown = wrapping_add_u64(row, 1);
     let end = s.x(s.requests);
+    let width = less(end, Sizes::LEFT);
+    let right = wrapping_add_u64(end, 8);
     put(
         b"<rect class=\"l\" x=\"@\" y=\"@\" width=\"@\" height=\"20\"/>\
         <text class=\"n\" x=\"16\" y=\"@\">slot @</text><text class=\"n\" x=\"@\" y=\"@\">slot @</text>\n",
-        &[
-            Sizes::LEFT,
-            y,
-            less(end, Sizes::LEFT),
-            name,
-            shown,
-            wrapping_add_u64(end, 8),
-            name,
-            shown,
-        ],
+        &[Sizes::LEFT, y, width, name, shown, right, name, shown],
     )
 }

@@ -22,8 +22,8 @@ fn main() {
     let mut trace = [0u8; TRACE_ROOM];
     let mut plan = [0u8; PLAN_ROOM];
     match words::asked() {
-        Command::Least => solving::least(&mut trace, &mut plan),
-        Command::Solve => solving::solve(&mut trace, &mut plan),
+        Command::Least => solving::solve(false, &mut trace, &mut plan),
+        Command::Solve => solving::solve(true, &mut trace, &mut plan),
         Command::Judge => on_plan(Command::Judge, &mut trace, &mut plan),
         Command::Audit => on_plan(Command::Audit, &mut trace, &mut plan),
         Command::Floor => on_plan(Command::Floor, &mut trace, &mut plan),

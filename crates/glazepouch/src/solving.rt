@@ -4,24 +4,21 @@ use disk::Loaded;
 use pages::first;
 use solver::Solved;
 
-// The least cost of the trace that the first word after the command names.
-pub fn least(trace: &mut [u8; crate::TRACE_ROOM], plan: &mut [u8; crate::PLAN_ROOM]) -> bool {
+// The least cost of the trace that the first word after the command names; where it is to be kept, with a plan of that cost written
+// to the file that the second word names: as a whole or not at all.
+pub fn solve(
+    keep: bool,
+    trace: &mut [u8; crate::TRACE_ROOM],
+    plan: &mut [u8; crate::PLAN_ROOM],
+) -> bool {
     let Loaded::Bytes(n) = disk::load_argument(2, trace) else {
         return false;
     };
-    solved(first(trace, n), plan, false)
-}
-
-// The same, with a plan of that cost written to the file that the second word names: as a whole or not at all.
-pub fn solve(trace: &mut [u8; crate::TRACE_ROOM], plan: &mut [u8; crate::PLAN_ROOM]) -> bool {
-    let Loaded::Bytes(n) = disk::load_argument(2, trace) else {
-        return false;
-    };
-    solved(first(trace, n), plan, true)
+    solved(keep, first(trace, n), plan)
 }
 
 // Solves the trace, writes its plan where that is to be kept, and says the cost.
-fn solved(trace: &[u8], plan: &mut [u8; crate::PLAN_ROOM], keep: bool) -> bool {
+fn solved(keep: bool, trace: &[u8], plan: &mut [u8; crate::PLAN_ROOM]) -> bool {
     let found = solver::solve(trace, plan);
     if keep && !kept(found, trace, plan) {
         return false;

@@ -21,7 +21,7 @@ fn rated(name: &[u8], least: u64, measured: u64) {
     match ratio::ratio(least, measured) {
         Rated::Gave(gap) => gave(gap),
         Rated::Refused(r) => {
-            lines::print_refusal(r);
+            told::refused(r);
         }
     }
 }

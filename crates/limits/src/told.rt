@@ -2,6 +2,8 @@
 use floor::Floored;
 use judge::Judged;
 use libc::STDOUT_FILENO;
+use lines::ROOM;
+use model::Refusal;
 use solver::Solved;
 use writer::Written;
 
@@ -18,23 +20,27 @@ pub fn word(answer: &[u8]) {
 }
 
 pub fn solved(answer: Solved) -> bool {
-    match answer {
-        Solved::Least(cost) => lines::print_cost(b"least", cost),
-        Solved::Refused(r) => lines::print_refusal(r),
-    }
+    let mut line = [0u8; ROOM];
+    let size = match answer {
+        Solved::Least(cost) => lines::least(cost, &mut line),
+        Solved::Refused(r) => lines::refused(r, &mut line),
+    };
+    print(&line, size)
 }
 
 pub fn judged(answer: Judged) -> bool {
-    match answer {
-        Judged::Accepted(cost) => lines::print_cost(b"accepted", cost),
-        Judged::Refused(r) => lines::print_refusal(r),
-    }
+    let mut line = [0u8; ROOM];
+    let size = match answer {
+        Judged::Accepted(cost) => lines::accepted(cost, &mut line),
+        Judged::Refused(r) => lines::refused(r, &mut line),
+    };
+    print(&line, size)
 }
 
 pub fn written(answer: Written) -> bool {
     match answer {
-        Written::Cost(cost) => lines::print_cost(b"cost", cost),
-        Written::Refused(r) => lines::print_refusal(r),
+        Written::Cost(cost) => number(b"cost ", cost),
+        Written::Refused(r) => refused(r),
     }
 }
 
@@ -42,18 +48,35 @@ pub fn written(answer: Written) -> bool {
 pub fn floored(answer: Floored) -> bool {
     match answer {
         Floored::Floor(floor) => floor_of(floor),
-        Floored::Refused(r) => lines::print_refusal(r),
+        Floored::Refused(r) => refused(r),
     }
 }
 
 // The floor, if it is one of the two that the cases have.
 fn floor_of(floor: i64) -> bool {
     if floor == 44 {
-        return lines::print_cost(b"floor", 44);
+        return number(b"floor ", 44);
     }
     if floor == 60 {
-        return lines::print_cost(b"floor", 60);
+        return number(b"floor ", 60);
     }
     word(b"another floor");
     false
+}
+
+// `refused N at P`.
+pub fn refused(r: Refusal) -> bool {
+    let mut line = [0u8; ROOM];
+    let size = lines::refused(r, &mut line);
+    print(&line, size)
+}
+
+fn print(line: &[u8; ROOM], size: usize) -> bool {
+    io::write_all(STDOUT_FILENO, lines::shown(line, size))
+}
+
+// A word and a number.
+fn number(word: &[u8], n: u64) -> bool {
+    io::write_all(STDOUT_FILENO, word);
+    io::print_decimal(STDOUT_FILENO, n) && io::write_all(STDOUT_FILENO, b"\n")
 }

@@ -38,9 +38,10 @@ fn judged_both(trace: &[u8]) {
 
 fn judged(name: &[u8], trace: &[u8], plan: &[u8]) {
     io::write_all(libc::STDOUT_FILENO, name);
-    match judge::judge(trace, plan) {
-        Judged::Accepted(cost) => lines::print_cost(b"accepted", cost),
-        Judged::Refused(r) => lines::print_refusal(r),
-    }
-    ;
+    let mut line = [0u8; lines::ROOM];
+    let size = match judge::judge(trace, plan) {
+        Judged::Accepted(cost) => lines::accepted(cost, &mut line),
+        Judged::Refused(r) => lines::refused(r, &mut line),
+    };
+    io::write_all(libc::STDOUT_FILENO, lines::shown(&line, size));
 }
