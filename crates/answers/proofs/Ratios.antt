@@ -1,16 +1,15 @@
 -- What a gap ratio that is not refused says of its two costs, and some pages.
-use mathlib.Core.Path.{_≡_, refl, sym, _∙_}
+use mathlib.Core.Path.{_≡_, refl}
 use Prim.Native.Nat.{ℕ, zero, suc, _≤_, _<_}
 use native.Mathlib.Omega.{arith}
 use mathlib.Core.Bool.{Bool, true, false, cond, _||_}
 use lib.Dec.{eqb, ltb}
-use lib.Ieee.{Float, binary64, ofInt, div, le, lt}
+use lib.Ieee.{Float, ofInt, div, le, lt}
 use borrow.Author.Tests.{ltb-false}
 use Rattle.model.specs.Numbers.{maxPlanCost}
 use Rattle.model.specs.Refusals.{Tried, passes, row, fine}
 use Rattle.model.proofs.Refusals.{answer-fine}
-use Rattle.ratio.specs.Ratio.{ratioTried, asFloat, gapOf, ratioOf}
-use Rattle.ratio.specs.declared.Gap.{Gap}
+use Rattle.ratio.specs.Ratio.{ratioTried, gapOf, ratioOf}
 use Rattle.ratio.specs.declared.Gap.the-variants.{NoCost, NoRatio, Ratio}
 use Rattle.pages.specs.Letters.{letters}
 use Rattle.decimal.specs.Decimal.{decimal}

@@ -10,7 +10,7 @@ use lib.ListN.{length, getD}
 use lib.Dec.{eqb, ltb}
 use borrow.Author.Tests.{lt-ltb, le-ltb, ltb-true, ltb-false, eqb-true, ne-eqb, eqb-false}
 use Rattle.pages.proofs.Laws.{split}
-use Rattle.decimal.specs.Decimal.{spellBy, decimal, digit, startsDigit, Found, found, none, digitsFrom, numeral}
+use Rattle.decimal.specs.Decimal.{spellBy, decimal, digit, startsDigit, found, none, digitsFrom, numeral}
 
 -- ---- spelling
 

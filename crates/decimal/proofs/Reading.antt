@@ -12,7 +12,7 @@ use Rattle.pages.proofs.Laws.{split}
 use Rattle.decimal.specs.Decimal.{digit, startsDigit, digitIn, found, none, digitsFrom, numeral}
 use Rattle.decimal.specs.declared.Numeral.{Numeral}
 use Rattle.decimal.specs.declared.Numeral.the-variants.{Is, Not}
-use Rattle.decimal.specs.Said.{said, Reads}
+use Rattle.decimal.specs.Said.{Reads}
 use Rattle.decimal.proofs.Laws.{over, byte-back}
 
 -- ---- the digit at a place

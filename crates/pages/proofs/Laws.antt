@@ -1,11 +1,11 @@
 -- Laws of a page that is filled from its start on.
 use mathlib.Core.Path.{_≡_, refl, sym, _∙_, ap}
 use Prim.Native.Nat.{ℕ, zero, suc, _+_, _-_, _≤_, _<_, min}
-use native.Mathlib.Nat.{min-eq-left, min-eq-right, min-comm}
+use native.Mathlib.Nat.{min-eq-left, min-eq-right}
 use native.Mathlib.Omega.{arith}
 use mathlib.Core.Bool.{Bool, true, false}
 use mathlib.Core.List.{List, [], _∷_, _++_}
-use lib.ListN.{length, getD, set, take, drop, replicate, length-append, length-set, length-take, drop-of-length-le, take-append-drop}
+use lib.ListN.{length, getD, set, take, drop, replicate, length-append, length-set, drop-of-length-le, take-append-drop}
 use lib.Seq.{sets, sets-eq, drop-cons, set-out, length-take-le, take-all, take-at}
 use lib.Dec.{ltb}
 use borrow.Author.Tests.{lt-ltb, le-ltb, ltb-true, ltb-false}
@@ -36,6 +36,14 @@ length-write p (b ∷ bs) = length-write (put p b) bs ∙ length-put p b
 -- pages that come to the same are equally long
 pub same-long : (p q : Page) (xs ys : List ℕ) → write p xs ≡ write q ys → length (bytesIn p) ≡ length (bytesIn q)
 same-long p q xs ys e = sym (length-write p xs) ∙ (ap (λ o. length (bytesIn o)) e ∙ length-write q ys)
+
+-- two answers that a page's equation permits are the same
+pub page-once : {p : Page} {r s : ℕ} {new new' : List ℕ} → filled r new ≡ p → filled s new' ≡ p → (r ≡ s) × (new ≡ new')
+page-once {r = r} {s} {new} {new'} a b =
+    let e : filled r new ≡ filled s new' = a ∙ sym b in
+    let m : r ≡ s = cc in
+    let n : new ≡ new' = cc in
+    (m, n)
 
 -- ---- loops: what is left to be written decides
 

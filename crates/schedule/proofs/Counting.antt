@@ -5,15 +5,14 @@ use native.Mathlib.Numerals.{add-one}
 use native.Mathlib.Omega.{arith}
 use mathlib.Core.Bool.{Bool}
 use mathlib.Core.List.{List}
-use lib.ListN.{length}
 use Rattle.model.specs.Model.{items}
 use Rattle.model.specs.Plans.{flagsIn, occupancy}
 use Rattle.model.proofs.Sums.{sum-zero}
 use Rattle.model.proofs.Links.{occ-step}
-use Rattle.trace.specs.TraceFile.{requestsAt, traceIn}
+use Rattle.trace.specs.TraceFile.{traceIn}
 use Rattle.trace.proofs.Sound.{reqs-length}
 use Rattle.replay.specs.Replay.{named}
-use Rattle.replay.specs.Linked.{flagAt, heldBy, Backward}
+use Rattle.replay.specs.Linked.{flagAt, heldBy}
 use Rattle.replay.proofs.Linked.{held-before}
 use Rattle.schedule.specs.Schedule.{bitOf}
 use Rattle.schedule.specs.Counted.{Linked}

@@ -2,17 +2,17 @@
 use mathlib.Core.Path.{_≡_, refl, sym, _∙_, ap}
 use Prim.Native.Nat.{ℕ, suc, _+_, _≤_, _<_}
 use native.Mathlib.Omega.{arith}
-use mathlib.Core.Bool.{Bool, true, false}
+use mathlib.Core.Bool.{Bool}
 use mathlib.Core.List.{List}
-use lib.ListN.{length, getD}
+use lib.ListN.{length}
 use lib.Dec.{eqb}
 use borrow.Author.Tests.{lt-ltb, le-ltb}
-use Rattle.model.specs.Model.{Request, charge}
+use Rattle.model.specs.Model.{charge}
 use Rattle.model.specs.Plans.{requestAt, rentsIn}
-use Rattle.model.specs.Refusals.{passes, refusal, fine, refused}
+use Rattle.model.specs.Refusals.{passes, Answer, fine, refused}
 use Rattle.model.proofs.Refusals.{answer-fine, answer-refused}
 use Rattle.model.proofs.Links.{getD-listed}
-use Rattle.trace.specs.TraceFile.{slotsAt, requestsAt, fillAt, itemAt, kindAt, costAt, rulesIn, requestIn, traceIn, traceTried}
+use Rattle.trace.specs.TraceFile.{slotsAt, requestsAt, fillAt, itemAt, kindAt, costAt, rulesIn, requestIn, traceIn}
 use Rattle.trace.specs.declared.Checked.{Checked}
 use Rattle.trace.proofs.Sound.{req-at}
 use Rattle.links.specs.Promise.{Filled}
@@ -24,10 +24,12 @@ use Rattle.replay.specs.declared.Row.{Row}
 use Rattle.replay.proofs.Linked.{held-before, held-after}
 use Rattle.replay.proofs.Table.{row-paid}
 use Rattle.replay.proofs.Answered.{filled-forward}
-use Rattle.audit.specs.Audit.{planFlags, planRents, auditTried}
+use Rattle.audit.specs.Audit.{planFlags, planRents, auditTried, auditOf}
 use Rattle.audit.proofs.Laws.{audit-passes}
 use Rattle.audit.proofs.Parts.{section-trace, flags-count}
-use Rattle.schedule.specs.Schedule.{bitOf, wordOf, stepWith, stepBy, stepOf, Here, at, past, steppedOf}
+use Rattle.schedule.specs.Schedule.{bitOf, wordOf, stepWith, stepBy, stepOf, Here, at, past, steppedOf, said}
+use Rattle.schedule.specs.declared.Stepped.{Stepped}
+use Rattle.schedule.specs.declared.Stepped.the-variants.{At, Past, Refused}
 use Rattle.schedule.specs.Counted.{Audited, Linked}
 use Rattle.schedule.proofs.Counting.{holds}
 
@@ -126,10 +128,10 @@ module _ (tr pl : List ℕ) (t : ℕ) (a : Audited tr pl t) where
 
 module _ (tr pl : List ℕ) (t : ℕ) where
   -- an audit that is answered with totals passed
-  pub audit-sound : (s : Totals) → fine s ≡ Rattle.audit.specs.Audit.auditOf tr pl → auditTried tr pl ≡ passes
+  pub audit-sound : (s : Totals) → fine s ≡ auditOf tr pl → auditTried tr pl ≡ passes
   audit-sound s e = answer-fine (auditTried tr pl) (totalsOf (traceIn tr) (planFlags tr pl)) s e .0
 
-  pub stepped-off : (n p : ℕ) → refused n p ≡ Rattle.audit.specs.Audit.auditOf tr pl → refused n p ≡ steppedOf tr pl t
+  pub stepped-off : (n p : ℕ) → refused n p ≡ auditOf tr pl → refused n p ≡ steppedOf tr pl t
   stepped-off n p e = rw (answer-refused (auditTried tr pl) (totalsOf (traceIn tr) (planFlags tr pl)) n p e)
 
   module _ (e : auditTried tr pl ≡ passes) where
@@ -138,3 +140,20 @@ module _ (tr pl : List ℕ) (t : ℕ) where
 
     pub stepped-past : requestsAt tr ≤ t → fine past ≡ steppedOf tr pl t
     stepped-past h = rw (e, le-ltb t (requestsAt tr) h)
+
+-- ---- one answer
+
+-- any two permitted answers coincide
+pub step-once : (a b : Stepped) (x : Answer Here) → said a ≡ x → said b ≡ x → a ≡ b
+step-once (At s) (At u) x p q = let e : s ≡ u = cc in ap At e
+step-once (At s) Past x p q = absurd (let z : _≡_ {A = ℕ} 0 1 = cc in omega arith)
+step-once (At s) (Refused r) x p q = absurd (let z : _≡_ {A = ℕ} 0 1 = cc in omega arith)
+step-once Past (At u) x p q = absurd (let z : _≡_ {A = ℕ} 0 1 = cc in omega arith)
+step-once Past Past x p q = refl
+step-once Past (Refused r) x p q = absurd (let z : _≡_ {A = ℕ} 0 1 = cc in omega arith)
+step-once (Refused r) (At u) x p q = absurd (let z : _≡_ {A = ℕ} 0 1 = cc in omega arith)
+step-once (Refused r) Past x p q = absurd (let z : _≡_ {A = ℕ} 0 1 = cc in omega arith)
+step-once (Refused r) (Refused s) x p q =
+    let n : r .number ≡ s .number = cc in
+    let m : r .place ≡ s .place = cc in
+    λ i. Refused (record { number = n i; place = m i })

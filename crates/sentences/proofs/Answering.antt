@@ -1,5 +1,5 @@
 -- The page of an answer, by what the answer is.
-use mathlib.Core.Path.{_≡_, sym, _∙_, ap}
+use mathlib.Core.Path.{_≡_, _∙_, ap}
 use Prim.Native.Nat.{ℕ}
 use mathlib.Core.List.{List}
 use Rattle.model.specs.Refusals.{Answer, fine, refused}

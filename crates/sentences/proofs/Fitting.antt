@@ -1,20 +1,21 @@
 -- How many bytes a text can come to, whatever its numbers are: of a text that can't come to more than a page has room for nothing is
 -- left out.
-use mathlib.Core.Path.{_≡_, refl, sym, _∙_, ap}
-use Prim.Native.Nat.{ℕ, zero, suc, _+_, _-_, _≤_, _<_, min, max}
+use mathlib.Core.Path.{_≡_, refl, sym, _∙_}
+use Prim.Native.Nat.{ℕ, zero, suc, _+_, _-_, _≤_, _<_, max}
 use native.Mathlib.Omega.{arith}
 use mathlib.Core.Bool.{Bool, true, false, cond, _&&_, _||_}
 use mathlib.Core.List.{List, [], _∷_, _++_}
 use lib.ListN.{length, getD, replicate, length-append, length-replicate}
 use lib.Dec.{eqb, ltb, leb}
-use borrow.Author.Tests.{eqb-true, eqb-false, eq-eqb, ne-eqb, ltb-true, ltb-false, leb-true}
+use borrow.Author.Tests.{eqb-true, eqb-false, eq-eqb, ne-eqb, ltb-true, leb-true}
 use Rattle.decimal.specs.Decimal.{decimal}
 use Rattle.decimal.proofs.Laws.{at-most-twenty}
 use Rattle.pages.specs.Pages.{Lies}
 use Rattle.pages.proofs.Laws.{split, cut-lies}
 use Rattle.sentences.specs.Spelled.{State, Sign, nextWord, shownOf, signOf, spelledFrom, start, spelled}
 use Rattle.sentences.specs.Signed.{Laid}
-use Rattle.sentences.proofs.Signs.{sign-choice, sign-bar, sign-end, sign-hidden, sign-shown, shown-run, shown-column, shown-zero-run, shown-zeros, shown-plain}
+use Rattle.sentences.proofs.Signs.{sign-choice, sign-bar, sign-end, sign-hidden, sign-shown}
+use Rattle.sentences.proofs.Signs.{shown-run, shown-column, shown-zero-run, shown-zeros, shown-plain}
 
 -- how much room a text has taken so far: what stands before the words that are read, the longest word that is over, and the word that is
 -- read

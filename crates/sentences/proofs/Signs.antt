@@ -10,7 +10,7 @@ use borrow.Author.Tests.{eq-eqb, ne-eqb, lt-ltb, le-ltb}
 use Rattle.decimal.specs.Decimal.{decimal}
 use Rattle.pages.specs.Pages.{filled, write}
 use Rattle.pages.proofs.Laws.{split, write-join}
-use Rattle.sentences.specs.Spelled.{State, Sign, quiet, choiceOf, barOf, endOf, runOf, columnOf, zerosOf, shownOf, signOf}
+use Rattle.sentences.specs.Spelled.{State, quiet, choiceOf, barOf, endOf, runOf, columnOf, zerosOf, shownOf, signOf}
 use Rattle.sentences.specs.Signed.{stateOf, Signed}
 use Rattle.sentences.specs.declared.Pen.{Pen}
 

@@ -1,6 +1,5 @@
 -- The loop's invariant: the digits written so far stand behind what is left.
 use borrow.Author.Needs.{needs}
-use mathlib.Core.Path.{_≡_}
 use native.Mathlib.Omega.{arith}
 use Rattle.decimal.proofs.Spelling.{Spelling, spelling-begins, spelling-on, spelling-room, spelling-ends}
 use Rattle.decimal.proofs.spell.Statement.{statement}

@@ -2,7 +2,7 @@
 use mathlib.Core.Path.{sym, _∙_, subst}
 use lib.Dec.{T}
 use lib.Ieee.{binary64, fits, ofBits}
-use Rattle.floats.proofs.Patterns.{Within, Bits, within, bits, is-number}
+use Rattle.floats.proofs.Patterns.{Within, within, bits, is-number}
 use Rattle.floats.proofs.Value.{too-small, too-large, by-bits}
 use Rattle.floats.proofs.cut.Statement.{statement}
 use Rattle.floats.proofs.cut.Tie as tie

@@ -1,6 +1,5 @@
 -- What the types say of the page and the numbers goes with it.
 use borrow.Author.Needs.{needs}
-use mathlib.Core.Path.{_≡_}
 use Rattle.sentences.proofs.lay.Statement.{statement}
 use Rattle.sentences.proofs.lay.Tie as tie
 

@@ -1,6 +1,6 @@
 -- Each case is its clause of the definition.
 use borrow.Author.Needs.{needs}
-use mathlib.Core.Path.{refl, ap}
+use mathlib.Core.Path.{refl}
 use Rattle.sentences.specs.Signed.{stateOf}
 use Rattle.sentences.proofs.Signs.{sign-choice, sign-bar, sign-end, sign-hidden, sign-shown}
 use Rattle.sentences.proofs.sign.Statement.{statement}

@@ -2,7 +2,6 @@
 use borrow.Author.Needs.{needs}
 use mathlib.Core.Path.{_∙_}
 use denote.Ref.{now}
-use Rattle.schedule.specs.Counted.{Linked}
 use Rattle.schedule.proofs.Steps.{plan-linked, plan-rent, step-of-plan}
 use Rattle.schedule.proofs.numbers.of_plan.Statement.{statement}
 use Rattle.schedule.proofs.numbers.of_plan.Tie as tie

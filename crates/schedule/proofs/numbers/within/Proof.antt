@@ -20,7 +20,7 @@ loop-holds c = counting-begins _ _ _
 inside : (c : tie.In-loop Inv-loop μ-loop) → c .before .loop .s < maxRequests
 inside c =
     let p = c .before .before .before .before .pre in
-    omega (arith, p .inside, p .back .sound .requests, c .loop-test .taken)
+    omega (arith, p .inside, p .back .sound .requests)
 
 flag-requires : tie.Need-flag-requires Inv-loop μ-loop
 flag-requires c κs = search needs
@@ -42,19 +42,19 @@ bit-requires-2 c κs = search needs
 sub-count : tie.Need-sub-count Inv-loop μ-loop
 sub-count c =
     let i = c .before .before .before .before in
-    counting-less (i .before .before .before .before .pre) (i .before .loop .inv) (i .loop-test .taken)
+    counting-less (i .before .before .before .before .pre) (i .before .loop .inv) (omega arith)
     (c .before .before .bit .ensures .0) (c .before .before .before .flag .ensures) (c .bit2 .ensures .0) (c .before .held .ensures)
 
 add-s : tie.Need-add-s Inv-loop μ-loop
 add-s c = omega (arith, inside (c .before .before .before .before))
 
 loop-less : tie.Need-loop-less Inv-loop μ-loop
-loop-less c = omega (arith, c .before .before .before .before .loop-test .taken)
+loop-less c = omega arith
 
 loop-again : tie.Need-loop-again Inv-loop μ-loop
 loop-again c =
     let i = c .before .before .before .before in
-    counting-on (i .before .before .before .before .pre) (i .before .loop .inv) (i .loop-test .taken)
+    counting-on (i .before .before .before .before .pre) (i .before .loop .inv) (omega arith)
     (c .before .before .bit .ensures .0) (c .before .before .before .flag .ensures) (c .bit2 .ensures .0) (c .before .held .ensures)
     (c .before .before .bit .ensures .1)
 

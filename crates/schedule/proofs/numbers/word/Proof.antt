@@ -1,6 +1,6 @@
 -- Each row has its word.
 use borrow.Author.Needs.{needs}
-use mathlib.Core.Path.{refl, sym, ap}
+use mathlib.Core.Path.{sym, ap}
 use Rattle.schedule.specs.Schedule.{wordOf}
 use Rattle.schedule.proofs.numbers.word.Statement.{statement}
 use Rattle.schedule.proofs.numbers.word.Tie as tie
