@@ -5,16 +5,16 @@ use mathlib.Core.List.{List, [], ◌∷◌}
 use Rattle.fields.specs.Bytes.{num_at}
 use Rattle.model.specs.Model.{cost, count}
 use Rattle.model.specs.Refusals.{fine, refused}
-use Rattle.trace.specs.TraceFile.{traceTried}
-use Rattle.trace.proofs.Example.{exampleBytes}
-use Rattle.plan.specs.PlanFile.{planTried, sectionTried}
-use Rattle.replay.specs.Replay.{flagsTried, Totals}
-use Rattle.audit.specs.Audit.{auditTried, auditOf}
-use Rattle.audit.proofs.Laws.{PlanAudited, audited-allowed}
+use Rattle.trace.specs.TraceFile.{trace_tried}
+use Rattle.trace.proofs.Example.{example_bytes}
+use Rattle.plan.specs.PlanFile.{plan_tried, section_tried}
+use Rattle.replay.specs.Replay.{flags_tried, Totals}
+use Rattle.audit.specs.Audit.{audit_tried, audit_of}
+use Rattle.audit.proofs.Laws.{PlanAudited, audited_allowed}
 
 -- the plan: it states 19, keeps the item from the read to the last request, and has rents 0
-abbrev planBytes : List ℕ
-planBytes =
+abbrev plan_bytes : List ℕ
+plan_bytes =
     0x43 ∷ 0x50 ∷ 0x4C ∷ 0x01 ∷ 0x00 ∷ 0x00 ∷ 0x03 ∷ 0x00
     ∷ 0x13 ∷ 0x00 ∷ 0x00 ∷ 0x00 ∷ 0x00 ∷ 0x00 ∷ 0x00 ∷ 0x00
     ∷ 0x01 ∷ 0x01 ∷ 0x00
@@ -26,17 +26,17 @@ abbrev totals : Totals
 totals = record { total = 19; misses = 1; fills = 1; strikes = 1 }
 
 -- the audit of it
-pub example-audited : fine totals ≡ auditOf exampleBytes planBytes
-unfolding auditTried sectionTried traceTried planTried flagsTried num_at cost count
-example-audited = refl
+pub example_audited : fine totals ≡ audit_of example_bytes plan_bytes
+unfolding audit_tried section_tried trace_tried plan_tried flags_tried num_at cost count
+example_audited = refl
 
 -- what the audit says of it
-pub example-allowed : PlanAudited exampleBytes planBytes totals
-example-allowed = audited-allowed exampleBytes planBytes totals example-audited
+pub example_allowed : PlanAudited example_bytes plan_bytes totals
+example_allowed = audited_allowed example_bytes plan_bytes totals example_audited
 
 -- the same plan with flag 1 at the last request
-abbrev strayBytes : List ℕ
-strayBytes =
+abbrev stray_bytes : List ℕ
+stray_bytes =
     0x43 ∷ 0x50 ∷ 0x4C ∷ 0x01 ∷ 0x00 ∷ 0x00 ∷ 0x03 ∷ 0x00
     ∷ 0x13 ∷ 0x00 ∷ 0x00 ∷ 0x00 ∷ 0x00 ∷ 0x00 ∷ 0x00 ∷ 0x00
     ∷ 0x01 ∷ 0x01 ∷ 0x01
@@ -44,6 +44,6 @@ strayBytes =
     ∷ []
 
 -- it is refused there
-pub example-stray : refused 14 3 ≡ auditOf exampleBytes strayBytes
-unfolding auditTried sectionTried traceTried planTried flagsTried num_at cost count
-example-stray = refl
+pub example_stray : refused 14 3 ≡ audit_of example_bytes stray_bytes
+unfolding audit_tried section_tried trace_tried plan_tried flags_tried num_at cost count
+example_stray = refl

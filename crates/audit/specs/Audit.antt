@@ -2,38 +2,38 @@
 use Rattle.std.specs.Prelude.{ℕ, not, List, eqb}
 use Rattle.model.specs.Model.{Trace, cost}
 use Rattle.model.specs.Refusals.{Tried, passes, row, next, Answer, fine, refused, answer}
-use Rattle.trace.specs.TraceFile.{requestsAt, traceIn}
-use Rattle.plan.specs.PlanFile.{shape_of, flagsPart, rentsAt, statedAt, sectionTried, rentsTried}
-use Rattle.replay.specs.Replay.{named, flagsTried, Totals, totalsOf}
+use Rattle.trace.specs.TraceFile.{requests_at, trace_in}
+use Rattle.plan.specs.PlanFile.{shape_of, flags_part, rents_at, stated_at, section_tried, rents_tried}
+use Rattle.replay.specs.Replay.{named, flags_tried, Totals, totals_of}
 use Rattle.audit.specs.declared.Audited.{Audited}
 use Rattle.audit.specs.declared.Audited.TheVariants.{Sound, Refused}
-use Rattle.replay.specs.Answers.{totalsIn}
+use Rattle.replay.specs.Answers.{totals_in}
 
 -- the flags that a plan has for a trace
-abbrev pub planFlags : (trace plan : List ℕ) → List ℕ
-planFlags tr pl = flagsPart (shape_of (requestsAt tr)) pl
+abbrev pub plan_flags : (trace plan : List ℕ) → List ℕ
+plan_flags tr pl = flags_part (shape_of (requests_at tr)) pl
 
 -- the rents that a plan has for a trace
-abbrev pub planRents : (trace plan : List ℕ) → List ℕ
-planRents tr pl = rentsAt (shape_of (requestsAt tr)) pl
+abbrev pub plan_rents : (trace plan : List ℕ) → List ℕ
+plan_rents tr pl = rents_at (shape_of (requests_at tr)) pl
 
 -- the replayed cost
-abbrev pub planCost : (trace plan : List ℕ) → ℕ
-planCost tr pl = cost (traceIn tr) (named (traceIn tr) (planFlags tr pl))
+abbrev pub plan_cost : (trace plan : List ℕ) → ℕ
+plan_cost tr pl = cost (trace_in tr) (named (trace_in tr) (plan_flags tr pl))
 
 -- rows 1 to 17
-unfoldable pub auditTried : (trace plan : List ℕ) → Tried
-auditTried tr pl =
-    next (sectionTried tr pl)
-    (next (flagsTried (traceIn tr) (planFlags tr pl))
-    (next (row (not (eqb (statedAt pl) (planCost tr pl))) 16 0 passes)
-    (rentsTried 0 (planRents tr pl))))
+unfoldable pub audit_tried : (trace plan : List ℕ) → Tried
+audit_tried tr pl =
+    next (section_tried tr pl)
+    (next (flags_tried (trace_in tr) (plan_flags tr pl))
+    (next (row (not (eqb (stated_at pl) (plan_cost tr pl))) 16 0 passes)
+    (rents_tried 0 (plan_rents tr pl))))
 
 -- the audit
-abbrev pub auditOf : (trace plan : List ℕ) → Answer Totals
-auditOf tr pl = answer (auditTried tr pl) (totalsOf (traceIn tr) (planFlags tr pl))
+abbrev pub audit_of : (trace plan : List ℕ) → Answer Totals
+audit_of tr pl = answer (audit_tried tr pl) (totals_of (trace_in tr) (plan_flags tr pl))
 
 -- document 01's number and values for each case of `Audited`
 abbrev pub said : Audited → Answer Totals
-said (Sound s) = fine (totalsIn s)
+said (Sound s) = fine (totals_in s)
 said (Refused r) = refused r.number r.place

@@ -1,6 +1,6 @@
 // The audit of a trace and a plan: total cost, read misses, fills and write hits, or one of refusals 1 to 17.
 ghost use Rattle.std.specs.Prelude.{◌≡◌};
-ghost use Rattle.audit.specs.Audit.{auditOf, said};
+ghost use Rattle.audit.specs.Audit.{audit_of, said};
 
 use model::{Outcome, Refusal};
 use replay::{Replayed, Totals};
@@ -16,7 +16,7 @@ pub enum Audited {
 
 // The totals of a plan's flags, if none of refusals 1 to 17 holds. The stated cost is compared in all its 64 bits.
 pub fn audit(trace: &[u8], plan: &[u8]) -> Audited
-    ensures { said result ≡ auditOf trace.now plan.now }
+    ensures { said result ≡ audit_of trace.now plan.now }
 {
     if let Outcome::Refused(r) = plan::refusal(trace, plan) {
         return Audited::Refused(r);

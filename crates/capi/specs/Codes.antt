@@ -9,9 +9,9 @@ use Rattle.ratio.specs.declared.Gap.{Gap}
 use Rattle.ratio.specs.declared.Gap.TheVariants.{NoCost, NoRatio, Ratio}
 
 -- the code of rows that were tried
-abbrev pub codeOfTried : Tried → ℕ
-codeOfTried passes = 0
-codeOfTried (refusal number place) = number + 256 * place
+abbrev pub code_of_tried : Tried → ℕ
+code_of_tried passes = 0
+code_of_tried (refusal number place) = number + 256 * place
 
 -- the code of an answer
 abbrev pub code_of : {A : Type 0} → Answer A → ℕ
@@ -19,14 +19,14 @@ code_of (fine a) = 0
 code_of (refused number place) = number + 256 * place
 
 -- what a lent value is after the call: the answer's, or as it was
-abbrev pub valueOr : {A : Type 0} → Answer A → A → A
-valueOr (fine a) old = a
-valueOr (refused number place) old = old
+abbrev pub value_or : {A : Type 0} → Answer A → A → A
+value_or (fine a) old = a
+value_or (refused number place) old = old
 
 -- the four totals in their order, or as they were
-abbrev pub totalsOr : Answer Totals → List ℕ → List ℕ
-totalsOr (fine s) old = s.total ∷ s.misses ∷ s.fills ∷ s.strikes ∷ []
-totalsOr (refused number place) old = old
+abbrev pub totals_or : Answer Totals → List ℕ → List ℕ
+totals_or (fine s) old = s.total ∷ s.misses ∷ s.fills ∷ s.strikes ∷ []
+totals_or (refused number place) old = old
 
 -- the number of a gap's case: 0 no cost, 1 no ratio, 2 a ratio
 abbrev pub kind_of : Gap → ℕ
@@ -35,20 +35,20 @@ kind_of NoRatio = 1
 kind_of (Ratio q) = 2
 
 -- the kind after the call
-abbrev pub kindOr : Answer Gap → ℕ → ℕ
-kindOr (fine g) old = kind_of g
-kindOr (refused number place) old = old
+abbrev pub kind_or : Answer Gap → ℕ → ℕ
+kind_or (fine g) old = kind_of g
+kind_or (refused number place) old = old
 
 -- the ratio that a gap leaves: written for a ratio alone
-abbrev pub ratioIn : Gap → Float → Float
-ratioIn NoCost old = old
-ratioIn NoRatio old = old
-ratioIn (Ratio q) old = q
+abbrev pub ratio_in : Gap → Float → Float
+ratio_in NoCost old = old
+ratio_in NoRatio old = old
+ratio_in (Ratio q) old = q
 
 -- the ratio after the call
-abbrev pub ratioOr : Answer Gap → Float → Float
-ratioOr (fine g) old = ratioIn g old
-ratioOr (refused number place) old = old
+abbrev pub ratio_or : Answer Gap → Float → Float
+ratio_or (fine g) old = ratio_in g old
+ratio_or (refused number place) old = old
 
 -- a refusal whose code fits 64 bits, is not 0, and tells number and place again
 pub record Codable (number place : ℕ) : Type 0 where
@@ -61,4 +61,4 @@ pub record Solves (trace before : List ℕ) (cost code : ℕ) (after : List ℕ)
   pub answer : Solved
   pub promise : Promise trace before answer after
   pub code_is : code ≡ code_of (said answer)
-  pub cost-is : cost' ≡ valueOr (said answer) cost
+  pub cost_is : cost' ≡ value_or (said answer) cost

@@ -1,13 +1,13 @@
 // The C interface of include/glazepouch.h: each function makes one proved call, answers 0 when the work is done, else the refusal's
 // number + 256 * its place, and on a refusal leaves what is lent as it was.
 ghost use Rattle.std.specs.Prelude.{◌≡◌, ◌+◌, ◌*◌, length};
-ghost use Rattle.plan.specs.PlanFile.{sectionTried};
-ghost use Rattle.audit.specs.Audit.{auditOf};
-ghost use Rattle.judge.specs.Judge.{judgeOf};
-ghost use Rattle.floor.specs.Floor.{floorOf};
-ghost use Rattle.ratio.specs.Ratio.{ratioOf};
-ghost use Rattle.writer.specs.Write.{writeOf, bufferOf};
-ghost use Rattle.capi.specs.Codes.{Codable, Solves, codeOfTried, code_of, valueOr, totalsOr, kindOr, ratioOr};
+ghost use Rattle.plan.specs.PlanFile.{section_tried};
+ghost use Rattle.audit.specs.Audit.{audit_of};
+ghost use Rattle.judge.specs.Judge.{judge_of};
+ghost use Rattle.floor.specs.Floor.{floor_of};
+ghost use Rattle.ratio.specs.Ratio.{ratio_of};
+ghost use Rattle.writer.specs.Write.{write_of, buffer_of};
+ghost use Rattle.capi.specs.Codes.{Codable, Solves, code_of_tried, code_of, value_or, totals_or, kind_or, ratio_or};
 
 use audit::Audited;
 use floor::Floored;
@@ -28,8 +28,8 @@ fn code(r: Refusal) -> u64
 // Total cost, read misses, fills and write hits of a plan. Refusals 1 to 17.
 #[unsafe(no_mangle)]
 pub extern "C" fn gp_audit(trace: &[u8], plan: &[u8], totals: &mut [u64; 4]) -> u64
-    ensures value { result ≡ code_of (auditOf trace.now plan.now) }
-    ensures totals_after { totals.new ≡ totalsOr (auditOf trace.now plan.now) totals.old }
+    ensures value { result ≡ code_of (audit_of trace.now plan.now) }
+    ensures totals_after { totals.new ≡ totals_or (audit_of trace.now plan.now) totals.old }
 {
     match audit::audit(trace, plan) {
         Audited::Refused(r) => code(r),
@@ -43,8 +43,8 @@ pub extern "C" fn gp_audit(trace: &[u8], plan: &[u8], totals: &mut [u64; 4]) -> 
 // The cost at which a plan is accepted. Refusals 1 to 18.
 #[unsafe(no_mangle)]
 pub extern "C" fn gp_judge(trace: &[u8], plan: &[u8], cost: &mut u64) -> u64
-    ensures value { result ≡ code_of (judgeOf trace.now plan.now) }
-    ensures cost_after { cost.new ≡ valueOr (judgeOf trace.now plan.now) cost.old }
+    ensures value { result ≡ code_of (judge_of trace.now plan.now) }
+    ensures cost_after { cost.new ≡ value_or (judge_of trace.now plan.now) cost.old }
 {
     match judge::judge(trace, plan) {
         Judged::Refused(r) => code(r),
@@ -58,8 +58,8 @@ pub extern "C" fn gp_judge(trace: &[u8], plan: &[u8], cost: &mut u64) -> u64
 // The floor of a list of rents. Refusals 1 to 8, 11, 17.
 #[unsafe(no_mangle)]
 pub extern "C" fn gp_floor(trace: &[u8], rents: &[u32], floor: &mut i64) -> u64
-    ensures value { result ≡ code_of (floorOf trace.now rents.now) }
-    ensures floor_after { floor.new ≡ valueOr (floorOf trace.now rents.now) floor.old }
+    ensures value { result ≡ code_of (floor_of trace.now rents.now) }
+    ensures floor_after { floor.new ≡ value_or (floor_of trace.now rents.now) floor.old }
 {
     match floor::floor(trace, rents) {
         Floored::Refused(r) => code(r),
@@ -79,9 +79,9 @@ pub extern "C" fn gp_write(
     buffer: &mut [u8],
     cost: &mut u64,
 ) -> u64
-    ensures value { result ≡ code_of (writeOf trace.now flags.now rents.now (length buffer.old)) }
-    ensures buffer_after { buffer.new ≡ bufferOf trace.now flags.now rents.now buffer.old }
-    ensures cost_after { cost.new ≡ valueOr (writeOf trace.now flags.now rents.now (length buffer.old)) cost.old }
+    ensures value { result ≡ code_of (write_of trace.now flags.now rents.now (length buffer.old)) }
+    ensures buffer_after { buffer.new ≡ buffer_of trace.now flags.now rents.now buffer.old }
+    ensures cost_after { cost.new ≡ value_or (write_of trace.now flags.now rents.now (length buffer.old)) cost.old }
 {
     match writer::write(trace, flags, rents, buffer) {
         Written::Refused(r) => code(r),
@@ -109,7 +109,7 @@ pub extern "C" fn gp_solve(trace: &[u8], buffer: &mut [u8], cost: &mut u64) -> u
 // Whether the flags and the rents can be taken from a plan's bytes. Refusals 1 to 12.
 #[unsafe(no_mangle)]
 pub extern "C" fn gp_section(trace: &[u8], plan: &[u8]) -> u64
-    ensures { result ≡ codeOfTried (sectionTried trace.now plan.now) }
+    ensures { result ≡ code_of_tried (section_tried trace.now plan.now) }
 {
     match plan::refusal(trace, plan) {
         Outcome::Refused(r) => code(r),
@@ -120,9 +120,9 @@ pub extern "C" fn gp_section(trace: &[u8], plan: &[u8]) -> u64
 // The measured cost by the least: the kind is 0 for no cost, 1 for no ratio, 2 for a ratio. Refusals 20, 21.
 #[unsafe(no_mangle)]
 pub extern "C" fn gp_ratio(least: u64, measured: u64, kind: &mut u8, ratio: &mut f64) -> u64
-    ensures value { result ≡ code_of (ratioOf least measured) }
-    ensures kind_after { kind.new ≡ kindOr (ratioOf least measured) kind.old }
-    ensures ratio_after { ratio.new ≡ ratioOr (ratioOf least measured) ratio.old }
+    ensures value { result ≡ code_of (ratio_of least measured) }
+    ensures kind_after { kind.new ≡ kind_or (ratio_of least measured) kind.old }
+    ensures ratio_after { ratio.new ≡ ratio_or (ratio_of least measured) ratio.old }
 {
     match ratio::ratio(least, measured) {
         Rated::Refused(r) => code(r),

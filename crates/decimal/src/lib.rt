@@ -2,7 +2,7 @@
 // stands at a place of a text.
 ghost use Rattle.std.specs.Prelude.{◌≡◌, drop, length, ◌≤◌};
 ghost use Rattle.pages.specs.Pages.{filled, write};
-ghost use Rattle.decimal.specs.Decimal.{decimal, digitIn, digitsFrom};
+ghost use Rattle.decimal.specs.Decimal.{decimal, digit_in, digits_from};
 ghost use Rattle.decimal.specs.Said.{Spelled, said, Inside, Reads};
 
 // A number read, and the place behind it.
@@ -88,7 +88,7 @@ fn spell(x: u64) -> Digits
 
 // The digit at a place, or 10 where none stands there.
 fn digit_at(text: &[u8], at: usize) -> u64
-    ensures { result ≡ digitIn (drop at text.now) }
+    ensures { result ≡ digit_in (drop at text.now) }
 {
     if text.len() <= at {
         return 10;
@@ -112,7 +112,7 @@ fn wide(x: u8) -> u64
 // The number of all the digits from place `at` on.
 fn long(text: &[u8], at: usize, top: u32) -> Numeral
     requires { at ≤ length text.now }
-    ensures { (said text.now result ≡ digitsFrom top 0 (drop at text.now)) × Inside text.now result }
+    ensures { (said text.now result ≡ digits_from top 0 (drop at text.now)) × Inside text.now result }
 {
     let mut value: u64 = 0;
     let mut next = at;

@@ -12,17 +12,17 @@ bytes_of zero x = []
 bytes_of (suc k) x = x % 256 ∷ bytes_of k (x / 256)
 
 -- whether these bytes stand from place `at` on
-abbrev pub standAt : (mark : List ℕ) → (at : ℕ) → List ℕ → Bool
-standAt [] at l = true
-standAt (b ∷ mark) at l = eqb (get_or l at 0) b && standAt mark (suc at) l
+abbrev pub stand_at : (mark : List ℕ) → (at : ℕ) → List ℕ → Bool
+stand_at [] at l = true
+stand_at (b ∷ mark) at l = eqb (get_or l at 0) b && stand_at mark (suc at) l
 
 -- the bytes of each number in turn, k to a number
-abbrev pub bytesOfAll : (k : ℕ) → List ℕ → List ℕ
-bytesOfAll k [] = []
-bytesOfAll k (x ∷ l) = bytes_of k x ++ bytesOfAll k l
+abbrev pub bytes_of_all : (k : ℕ) → List ℕ → List ℕ
+bytes_of_all k [] = []
+bytes_of_all k (x ∷ l) = bytes_of k x ++ bytes_of_all k l
 
 -- the list with these put in its first places; as many as it has places for
-abbrev pub putFront : List ℕ → List ℕ → List ℕ
-putFront [] l = l
-putFront (x ∷ xs) [] = []
-putFront (x ∷ xs) (y ∷ l) = x ∷ putFront xs l
+abbrev pub put_front : List ℕ → List ℕ → List ℕ
+put_front [] l = l
+put_front (x ∷ xs) [] = []
+put_front (x ∷ xs) (y ∷ l) = x ∷ put_front xs l

@@ -5,14 +5,14 @@ use Rattle.floats.specs.Cut.{cut_of}
 use Rattle.floats.proofs.Ratio.{ratio}
 
 -- 17 / 10 is a little less than 1.7, and is not rounded up
-seventeen-tenths : cut_of (ratio 10 17) ≡ record { whole = 1; parts = 6999999999999999 }
+seventeen_tenths : cut_of (ratio 10 17) ≡ record { whole = 1; parts = 6999999999999999 }
 unfolding div of_int le lt
-seventeen-tenths = refl
+seventeen_tenths = refl
 
 -- 10 / 3 is a little more than 3.33.., from the sixteenth decimal on
-ten-thirds : cut_of (ratio 3 10) ≡ record { whole = 3; parts = 3333333333333334 }
+ten_thirds : cut_of (ratio 3 10) ≡ record { whole = 3; parts = 3333333333333334 }
 unfolding div of_int le lt
-ten-thirds = refl
+ten_thirds = refl
 
 four : cut_of (ratio 1 4) ≡ record { whole = 4; parts = 0 }
 unfolding div of_int le lt

@@ -16,11 +16,11 @@ module _ (a b : ℕ) (B : 0 < b) where
       ∙ mul-add k (a / b * b) (a % b)
       ∙ ap (λ (x : ℕ). x + k * (a % b)) (sym (mul_assoc k (a / b) b))
 
-  quotient-grown : (k : ℕ) → k * a / b ≡ k * (a / b) + k * (a % b) / b
-  quotient-grown k = ap (λ (x : ℕ). x / b) (grown k) ∙ mul-add-div_right B (k * (a / b)) (k * (a % b))
+  quotient_grown : (k : ℕ) → k * a / b ≡ k * (a / b) + k * (a % b) / b
+  quotient_grown k = ap (λ (x : ℕ). x / b) (grown k) ∙ mul-add-div_right B (k * (a / b)) (k * (a % b))
 
-  rest-grown : (k : ℕ) → k * a % b ≡ k * (a % b) % b
-  rest-grown k = ap (λ (x : ℕ). x % b) (grown k) ∙ mul-add-mod_self_right (k * (a / b)) b (k * (a % b))
+  rest_grown : (k : ℕ) → k * a % b ≡ k * (a % b) % b
+  rest_grown k = ap (λ (x : ℕ). x % b) (grown k) ∙ mul-add-mod_self_right (k * (a / b)) b (k * (a % b))
 
 -- less than one, k times as large
 below : (r b k : ℕ) → r < b → 0 < k → k * r / b < k
@@ -29,7 +29,7 @@ below r b k h K = let B : 0 < b = omega arith in (div-lt_iff_lt-mul B).1 (mul-lt
 -- the decimals of a fraction are those of its rest
 decimals : (a b k : ℕ) → 0 < b → 0 < k → k * (a % b) / b ≡ k * a / b % k
 decimals a b k B K =
-    sym (ap (λ (x : ℕ). x % k) (quotient-grown a b B k)
+    sym (ap (λ (x : ℕ). x % k) (quotient_grown a b B k)
     ∙ mul-add-mod_self_left k (a / b) (k * (a % b) / b)
     ∙ mod-eq_of_lt (below (a % b) b k (mod-lt a B) K))
 
@@ -44,8 +44,8 @@ pub record Divided (r b n parts rest : ℕ) : Type 0 where
   pub under : r < b
   pub room : n ≤ 16
 
-pub division-begins : (a b : ℕ) → 0 < b → Divided (a % b) b 0 0 (a % b)
-division-begins a b B =
+pub division_begins : (a b : ℕ) → 0 < b → Divided (a % b) b 0 0 (a % b)
+division_begins a b B =
     let h : a % b < b = mod-lt a B in
     record {
       found = sym (ap (λ (x : ℕ). x / b) (one-mul (a % b)) ∙ div-eq_of_lt h);
@@ -58,25 +58,25 @@ module _ {r b n parts rest : ℕ} (d : Divided r b n parts rest) where
   positive : 0 < b
   positive = omega arith
 
-  next-found : 10 * parts + 10 * rest / b ≡ 10 ^ (n + 1) * r / b
-  next-found = rw (d.found, d.left, tenfold n r) (sym (quotient-grown (10 ^ n * r) b positive 10))
+  next_found : 10 * parts + 10 * rest / b ≡ 10 ^ (n + 1) * r / b
+  next_found = rw (d.found, d.left, tenfold n r) (sym (quotient_grown (10 ^ n * r) b positive 10))
 
-  next-left : 10 * rest % b ≡ 10 ^ (n + 1) * r % b
-  next-left = rw (d.left, tenfold n r) (sym (rest-grown (10 ^ n * r) b positive 10))
+  next_left : 10 * rest % b ≡ 10 ^ (n + 1) * r % b
+  next_left = rw (d.left, tenfold n r) (sym (rest_grown (10 ^ n * r) b positive 10))
 
-  pub rest-small : rest < b
-  rest-small = rw d.left (mod-lt (10 ^ n * r) positive)
+  pub rest_small : rest < b
+  rest_small = rw d.left (mod-lt (10 ^ n * r) positive)
 
-  pub parts-small : n < 16 → 10 * parts + 10 * rest / b < 10 ^ 16
-  parts-small h =
+  pub parts_small : n < 16 → 10 * parts + 10 * rest / b < 10 ^ 16
+  parts_small h =
       let k : n + 1 ≤ 16 = omega arith in
-      rw next-found (lt_of_lt_of_le (below r b (10 ^ (n + 1)) d.under (one-le-pow (n + 1) 10 (lit< tt))) (pow-le-pow_right (lit< tt) k))
+      rw next_found (lt_of_lt_of_le (below r b (10 ^ (n + 1)) d.under (one-le-pow (n + 1) 10 (lit< tt))) (pow-le-pow_right (lit< tt) k))
 
-  pub division-on : n < 16 → Divided r b (n + 1) (10 * parts + 10 * rest / b) (10 * rest % b)
-  division-on h = record { found = next-found; left = next-left; under = d.under; room = omega arith }
+  pub division_on : n < 16 → Divided r b (n + 1) (10 * parts + 10 * rest / b) (10 * rest % b)
+  division_on h = record { found = next_found; left = next_left; under = d.under; room = omega arith }
 
-pub division-ends : (a b n parts rest : ℕ) → Divided (a % b) b n parts rest → 16 ≤ n → record { whole = a / b; parts = parts } ≡ fraction a b
-division-ends a b n parts rest d h =
+pub division_ends : (a b n parts rest : ℕ) → Divided (a % b) b n parts rest → 16 ≤ n → record { whole = a / b; parts = parts } ≡ fraction a b
+division_ends a b n parts rest d h =
     let e : n ≡ 16 = omega arith in
     let p : parts ≡ 10 ^ 16 * a / b % 10 ^ 16 = d.found ∙ ap (λ (x : ℕ). 10 ^ x * (a % b) / b) e ∙ decimals a b (10 ^ 16) (positive d) (lit< tt) in
     ap (λ (x : ℕ). record { whole = a / b; parts = x }) p

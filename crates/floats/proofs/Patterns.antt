@@ -12,7 +12,7 @@ use lib.Ieee.Bits.{of_bits-to_bits}
 use lib.Ieee.Exact.{HasValue, odd_sign}
 use lib.Ieee.Positive.{num, den, positive, den_pos, between, le→cross}
 use Rattle.floats.specs.Cut.{one, large}
-use Rattle.floats.proofs.Scale.{not_lower, not-higher, lowest-terms}
+use Rattle.floats.proofs.Scale.{not_lower, not_higher, lowest_terms}
 
 -- ---- what the tests say
 
@@ -105,9 +105,9 @@ bits v f w =
     let x = r.0 in
     let e : b / 2 ^ 52 ≡ suc x = ap (λ (k : ℕ). k / 2 ^ 52) (sym (mod-eq_of_lt (leb-false (2 ^ 63) b r.2))) ∙ r.1 in
     let lo : 1074 < 53 + x = not_lower (num v) (den v) q x 1074 (den_pos v) r.3 (omega arith) w.least in
-    let hi : x ≤ 1074 = not-higher (num v) (den v) q x 1074 (den_pos v) r.3 (omega arith) w.most in
+    let hi : x ≤ 1074 = not_higher (num v) (den v) q x 1074 (den_pos v) r.3 (omega arith) w.most in
     let k : 1075 - b / 2 ^ 52 ≡ 1074 - x = omega (arith, e) in
-    let s = lowest-terms (num v) (den v) q x 1074 (den_pos v) r.3 hi in
+    let s = lowest_terms (num v) (den v) q x 1074 (den_pos v) r.3 hi in
     record {
       lowest = omega (arith, e, lo);
       highest = omega (arith, e, hi);

@@ -83,20 +83,20 @@ module _ (least measured : ℕ) (a : 1 ≤ least) (b : least ≤ measured) (c : 
       (exact measured (omega arith)) (exact least (omega arith))
 
   -- it passes both tests of the definition
-  pub ratio-in-range : (le one (ratio least measured) ≡ true) × (lt (ratio least measured) large ≡ true)
-  ratio-in-range =
+  pub ratio_in_range : (le one (ratio least measured) ≡ true) × (lt (ratio least measured) large ≡ true)
+  ratio_in_range =
       let q = ratio least measured in
       let l : T (le one q) = rw (rounded, ← lower) (round_mono binary64 1 1 measured least (lit< tt) a (omega arith)) in
       let h : T (le q enough) = rw (rounded, ← upper) (round_mono binary64 measured least (2 ^ 31) 1 a (lit< tt) (omega arith)) in
       (is_true (le one q) l, is_true (lt q large) (below q (between one q enough tt tt l h) h))
 
   -- so the answer is its digits
-  pub ratio-digits : cut_of (ratio least measured) ≡ fraction (num (ratio least measured)) (den (ratio least measured))
-  ratio-digits = rw (ratio-in-range.0, ratio-in-range.1)
+  pub ratio_digits : cut_of (ratio least measured) ≡ fraction (num (ratio least measured)) (den (ratio least measured))
+  ratio_digits = rw (ratio_in_range.0, ratio_in_range.1)
 
   -- and never 0 and 0
-  pub ratio-whole : 1 ≤ (cut_of (ratio least measured)).whole
-  ratio-whole =
+  pub ratio_whole : 1 ≤ (cut_of (ratio least measured)).whole
+  ratio_whole =
       let q = ratio least measured in
-      let w = within q ratio-in-range.0 ratio-in-range.1 in
-      rw ratio-digits ((le-div_iff_mul-le (den_pos q)).1 (rw one-mul w.least))
+      let w = within q ratio_in_range.0 ratio_in_range.1 in
+      rw ratio_digits ((le-div_iff_mul-le (den_pos q)).1 (rw one-mul w.least))

@@ -25,13 +25,13 @@ module _ (n d q x l : ℕ) (D : 0 < d) (v : n * 2 ^ l ≡ q * 2 ^ x * d) where
   pub not_lower : q < 2 ^ 53 → d ≤ n → l < 53 + x
   not_lower k h = exponents l (53 + x) (lt_of_le_of_lt (at_least h) (shl_lt 53 x k))
 
-  pub not-higher : 2 ^ 52 ≤ q → n < 2 ^ 53 * d → x ≤ l
-  not-higher k h =
+  pub not_higher : 2 ^ 52 ≤ q → n < 2 ^ 53 * d → x ≤ l
+  not_higher k h =
       let e : 52 + x < 53 + l = exponents (52 + x) (53 + l) (lt_of_le_of_lt (le_trans (le_of_eq (pow-add 2 52 x)) (mul-le-mul_right (2 ^ x) k)) (at_most h)) in
       omega arith
 
-  pub lowest-terms : x ≤ l → n * 2 ^ (l - x) ≡ q * d
-  lowest-terms h =
+  pub lowest_terms : x ≤ l → n * 2 ^ (l - x) ≡ q * d
+  lowest_terms h =
       eq_of_mul-eq-mul_right (2 ^ x) (pow_pos x) (n * 2 ^ (l - x)) (q * d)
       (mul_assoc n (2 ^ (l - x)) (2 ^ x)
       ∙ ap (λ (z : ℕ). n * z) (mul_comm (2 ^ (l - x)) (2 ^ x) ∙ sym (pow-add 2 x (l - x)) ∙ ap (λ (z : ℕ). 2 ^ z) (add-sub_of_le h))

@@ -33,8 +33,8 @@ module _ (x : Float) where
       (sym (same_digits (num x) (den x) (to_bits binary64 x % 2 ^ 52 + 2 ^ 52) (2 ^ k) (den_pos x) (pow_pos k) (bits x f (within x a b)).same))
 
   -- sixteen digits hold the decimals
-  pub parts-few : (cut_of x).parts < 10 ^ 16
-  parts-few = go (le one x && lt x large)
+  pub parts_few : (cut_of x).parts < 10 ^ 16
+  parts_few = go (le one x && lt x large)
     where
       go : (b : Bool) → (cond b (fraction (num x) (den x)) (record { whole = 0; parts = 0 })).parts < 10 ^ 16
       go true = mod-lt (10 ^ 16 * num x / den x) (lit< tt)

@@ -4,8 +4,8 @@ use Prim.Native.Nat.{ℕ, zero, suc, ◌*◌, ◌≤◌, ◌<◌}
 use native.Mathlib.Omega.{arith}
 use mathlib.Core.List.{List, [], ◌∷◌}
 use lib.ListN.{length, get_or, replicate}
-use Rattle.model.specs.Plans.{rentsIn}
-use Rattle.floor.specs.Pass.{paidTo}
+use Rattle.model.specs.Plans.{rents_in}
+use Rattle.floor.specs.Pass.{paid_to}
 
 -- within the list it is no matter what stands beyond it
 pub get_d_any : (l : List ℕ) (i d e : ℕ) → i < length l → get_or l i d ≡ get_or l i e
@@ -15,12 +15,12 @@ get_d_any (x ∷ l) zero d e h = refl
 get_d_any (x ∷ l) (suc i) d e h = get_d_any l i d e (omega arith)
 
 -- the same number everywhere, beyond the end too
-pub getD-same : (k i d : ℕ) → get_or (replicate k d) i d ≡ d
-getD-same zero i d = refl
-getD-same (suc k) zero d = refl
-getD-same (suc k) (suc i) d = getD-same k i d
+pub get_d_same : (k i d : ℕ) → get_or (replicate k d) i d ≡ d
+get_d_same zero i d = refl
+get_d_same (suc k) zero d = refl
+get_d_same (suc k) (suc i) d = get_d_same k i d
 
 -- the rents of the first t gaps are at most t times the largest
-pub paid-top : (rents : List ℕ) (c t : ℕ) → ((s : ℕ) → get_or rents s 0 ≤ c) → paidTo (rentsIn rents) t ≤ c * t
-paid-top rents c zero h = omega arith
-paid-top rents c (suc t) h = omega (arith, h t, paid-top rents c t h)
+pub paid_top : (rents : List ℕ) (c t : ℕ) → ((s : ℕ) → get_or rents s 0 ≤ c) → paid_to (rents_in rents) t ≤ c * t
+paid_top rents c zero h = omega arith
+paid_top rents c (suc t) h = omega (arith, h t, paid_top rents c t h)

@@ -10,34 +10,34 @@ use mathlib.Core.List.{List, []}
 use lib.ListN.{length, get_or, set, drop, replicate, length-set, length-drop, length-replicate}
 use lib.Seq.{get_or-set_same, get_or-set_other}
 use lib.Dec.{eqb, lit≤}
-use Rattle.model.specs.Model.{Request, leasts, rentsAll}
-use Rattle.model.specs.Plans.{requestAt, rentsIn}
+use Rattle.model.specs.Model.{Request, leasts, rents_all}
+use Rattle.model.specs.Plans.{request_at, rents_in}
 use Rattle.model.specs.Links.{next_of}
 use Rattle.model.proofs.Sums.{split}
-use Rattle.model.proofs.Links.{next-is}
-use Rattle.trace.specs.TraceFile.{slotsAt, requestsAt, fillAt, kind_at, costAt, rulesIn, traceIn}
-use Rattle.trace.proofs.Sound.{reqs-length, req_at}
-use Rattle.floor.specs.Pass.{paidTo, Ready}
-use Rattle.floor.proofs.Lists.{getD-same, paid-top}
-use Rattle.floor.proofs.Backward.{paid-mono, rents-paid, drop_past, own_at, leastsAt, back, least-top}
+use Rattle.model.proofs.Links.{next_is}
+use Rattle.trace.specs.TraceFile.{slots_at, requests_at, fill_at, kind_at, cost_at, rules_in, trace_in}
+use Rattle.trace.proofs.Sound.{reqs_length, req_at}
+use Rattle.floor.specs.Pass.{paid_to, Ready}
+use Rattle.floor.proofs.Lists.{get_d_same, paid_top}
+use Rattle.floor.proofs.Backward.{paid_mono, rents_paid, drop_past, own_at, leasts_at, back, least_top}
 
 -- the price of request t's own item from the gap before it on, and the prices of all items asked for then
-abbrev pub ownIn : (trace rents : List ℕ) → (t : ℕ) → Bool → ℕ
-ownIn trace rents t b = own_at (rulesIn trace) (rentsIn rents) (traceIn trace).reqs t b
+abbrev pub own_in : (trace rents : List ℕ) → (t : ℕ) → Bool → ℕ
+own_in trace rents t b = own_at (rules_in trace) (rents_in rents) (trace_in trace).reqs t b
 
-abbrev pub leastsIn : (trace rents : List ℕ) → (t : ℕ) → ℕ
-leastsIn trace rents t = leastsAt (rulesIn trace) (rentsIn rents) (traceIn trace).reqs t
+abbrev pub leasts_in : (trace rents : List ℕ) → (t : ℕ) → ℕ
+leasts_in trace rents t = leasts_at (rules_in trace) (rents_in rents) (trace_in trace).reqs t
 
 -- requests t and later are done
 pub record Passed (trace rents : List ℕ) (all : ℕ) (out held : List ℕ) (total paid t : ℕ) : Type 0 where
-  pub upto : t ≤ requestsAt trace
-  pub long-out : length out ≡ 1024
-  pub long-held : length held ≡ 1024
-  pub rest : paid ≡ paidTo (rentsIn rents) t
-  pub outs : (u : ℕ) → t ≤ u → u ≤ requestsAt trace → get_or out u 0 ≡ ownIn trace rents u false
-  pub helds : (u : ℕ) → t ≤ u → u ≤ requestsAt trace → get_or held u all ≡ ownIn trace rents u true + paidTo (rentsIn rents) u
-  pub sum : total ≡ leastsIn trace rents t
-  pub small : total + 1000000 * t ≤ 1000000 * requestsAt trace
+  pub upto : t ≤ requests_at trace
+  pub long_out : length out ≡ 1024
+  pub long_held : length held ≡ 1024
+  pub rest : paid ≡ paid_to (rents_in rents) t
+  pub outs : (u : ℕ) → t ≤ u → u ≤ requests_at trace → get_or out u 0 ≡ own_in trace rents u false
+  pub helds : (u : ℕ) → t ≤ u → u ≤ requests_at trace → get_or held u all ≡ own_in trace rents u true + paid_to (rents_in rents) u
+  pub sum : total ≡ leasts_in trace rents t
+  pub small : total + 1000000 * t ≤ 1000000 * requests_at trace
 
 -- the same of a request that has one before it
 pub at_suc : {trace rents : List ℕ} {all : ℕ} {out held : List ℕ} {total paid t : ℕ} → Passed trace rents all out held total paid t → 0 < t
@@ -47,41 +47,41 @@ at_suc {trace} {rents} {all} {out} {held} {total} {paid} {t} p h =
 
 module _ {trace rents next : List ℕ} (ready : Ready trace rents next) where
   -- no request's cost is above the limit
-  costs-top : (s : ℕ) → s < length (traceIn trace).reqs → (requestAt (traceIn trace).reqs s).cost ≤ 1000000
-  costs-top s h = let l : s < requestsAt trace = omega (arith, reqs-length trace) in rw (req_at trace s l) (ready.sound.costs s l)
+  costs_top : (s : ℕ) → s < length (trace_in trace).reqs → (request_at (trace_in trace).reqs s).cost ≤ 1000000
+  costs_top s h = let l : s < requests_at trace = omega (arith, reqs_length trace) in rw (req_at trace s l) (ready.sound.costs s l)
 
   -- no price is above a million for each request to come
-  own-top : (u : ℕ) (b : Bool) → ownIn trace rents u b ≤ 1024000000
-  own-top u b =
+  own_top : (u : ℕ) (b : Bool) → own_in trace rents u b ≤ 1024000000
+  own_top u b =
       le_trans
-      (least-top (rulesIn trace) (rentsIn rents) (traceIn trace).reqs 1000000 _ u (drop u (traceIn trace).reqs) b refl costs-top)
-      (omega (arith, length-drop u (traceIn trace).reqs, reqs-length trace, ready.sound.requests))
+      (least_top (rules_in trace) (rents_in rents) (trace_in trace).reqs 1000000 _ u (drop u (trace_in trace).reqs) b refl costs_top)
+      (omega (arith, length-drop u (trace_in trace).reqs, reqs_length trace, ready.sound.requests))
 
   -- nothing is paid from the end on
-  own-end : (b : Bool) → ownIn trace rents (requestsAt trace) b ≡ 0
-  own-end b = rw (drop_past (requestsAt trace) (traceIn trace).reqs (omega (arith, reqs-length trace)))
+  own_end : (b : Bool) → own_in trace rents (requests_at trace) b ≡ 0
+  own_end b = rw (drop_past (requests_at trace) (trace_in trace).reqs (omega (arith, reqs_length trace)))
 
   -- a request's next one is after it, and no later than the end
-  pub next-range : (t : ℕ) → t < requestsAt trace → (t < get_or next t 0) × (get_or next t 0 ≤ requestsAt trace)
-  next-range t l =
-      let k = next-is (traceIn trace).reqs t in
+  pub next_range : (t : ℕ) → t < requests_at trace → (t < get_or next t 0) × (get_or next t 0 ≤ requests_at trace)
+  next_range t l =
+      let k = next_is (trace_in trace).reqs t in
       let e = ready.nexts t l in
-      (omega (arith, k.from), omega (arith, k.upto, reqs-length trace))
+      (omega (arith, k.from), omega (arith, k.upto, reqs_length trace))
 
   -- where the pass begins
-  pub passed_start : {all : ℕ} → all ≡ paidTo (rentsIn rents) (length rents)
-      → Passed trace rents all (replicate 1024 0) (replicate 1024 all) 0 all (requestsAt trace)
+  pub passed_start : {all : ℕ} → all ≡ paid_to (rents_in rents) (length rents)
+      → Passed trace rents all (replicate 1024 0) (replicate 1024 all) 0 all (requests_at trace)
   passed_start {all} e =
-      let n = requestsAt trace in
-      let z : drop n (traceIn trace).reqs ≡ [] = drop_past n (traceIn trace).reqs (omega (arith, reqs-length trace)) in
-      let a : all ≡ paidTo (rentsIn rents) n = rw (← ready.count) e in
+      let n = requests_at trace in
+      let z : drop n (trace_in trace).reqs ≡ [] = drop_past n (trace_in trace).reqs (omega (arith, reqs_length trace)) in
+      let a : all ≡ paid_to (rents_in rents) n = rw (← ready.count) e in
       record {
         upto = omega arith;
-        long-out = length-replicate {A = ℕ} 1024 0;
-        long-held = length-replicate {A = ℕ} 1024 all;
+        long_out = length-replicate {A = ℕ} 1024 0;
+        long_held = length-replicate {A = ℕ} 1024 all;
         rest = a;
-        outs = λ u l m. let q : u ≡ n = omega arith in getD-same 1024 u 0 ∙ sym (rw q (own-end false));
-        helds = λ u l m. let q : u ≡ n = omega arith in getD-same 1024 u all ∙ (rw q (omega (arith, own-end true)));
+        outs = λ u l m. let q : u ≡ n = omega arith in get_d_same 1024 u 0 ∙ sym (rw q (own_end false));
+        helds = λ u l m. let q : u ≡ n = omega arith in get_d_same 1024 u all ∙ (rw q (omega (arith, own_end true)));
         sum = rw z;
         small = omega arith;
       }
@@ -89,30 +89,30 @@ module _ {trace rents next : List ℕ} (ready : Ready trace rents next) where
   -- one more request, number t: its rent x, its next u, and what the lists hold there
   module _ {all : ℕ} {out held : List ℕ} {total paid t x u none h : ℕ} (p : Passed trace rents all out held total paid (suc t))
       (ex : x ≡ get_or rents t 0) (eu : u ≡ get_or next t 0) (en : none ≡ get_or out u 0) (eh : h ≡ get_or held u all) where
-    next-eq : u ≡ next_of (traceIn trace).reqs t
+    next-eq : u ≡ next_of (trace_in trace).reqs t
     next-eq = eu ∙ ready.nexts t p.upto
 
     pub record Due : Type 0 where
       pub place : t < 1024
       pub gap : t < length rents
       pub rent : x ≤ paid
-      pub left : paid - x ≡ paidTo (rentsIn rents) t
-      pub none_is : none ≡ ownIn trace rents u false
-      pub held-is : h ≡ ownIn trace rents u true + paidTo (rentsIn rents) u
+      pub left : paid - x ≡ paid_to (rents_in rents) t
+      pub none_is : none ≡ own_in trace rents u false
+      pub held-is : h ≡ own_in trace rents u true + paid_to (rents_in rents) u
       pub below : paid - x ≤ h
       pub none-top : none ≤ 1024000000
-      pub held-top : h ≤ 3072000000
+      pub held_top : h ≤ 3072000000
       pub total-top : total ≤ 1024000000
 
     pub due : Due
     due =
-        let (a, b) = rw (← eu) at (next-range t p.upto) in
+        let (a, b) = rw (← eu) at (next_range t p.upto) in
         let v = p.outs u a b in
         let w = p.helds u a b in
-        let m = paid-mono (rentsIn rents) t u (omega arith) in
-        let q = paid-top rents 2000000 u ready.within in
-        let f = own-top u false in
-        let g = own-top u true in
+        let m = paid_mono (rents_in rents) t u (omega arith) in
+        let q = paid_top rents 2000000 u ready.within in
+        let f = own_top u false in
+        let g = own_top u true in
         let s = ready.sound.requests in
         record {
           place = omega (arith, p.upto);
@@ -123,18 +123,18 @@ module _ {trace rents next : List ℕ} (ready : Ready trace rents next) where
           held-is = eh ∙ w;
           below = omega (arith, p.rest);
           none-top = omega arith;
-          held-top = omega arith;
+          held_top = omega arith;
           total-top = omega (arith, p.small);
         }
 
     -- the request's two prices, by the code's equations
     module _ {miss hold : ℕ}
-        (em : miss ≡ cond (eqb (kind_at trace t) 1) none (costAt trace t + min none (fillAt trace + (h - (paid - x)))))
-        (eo : hold ≡ cond (eqb (kind_at trace t) 1) (costAt trace t) 0 + min none (h - (paid - x))) where
+        (em : miss ≡ cond (eqb (kind_at trace t) 1) none (cost_at trace t + min none (fill_at trace + (h - (paid - x)))))
+        (eo : hold ≡ cond (eqb (kind_at trace t) 1) (cost_at trace t) 0 + min none (h - (paid - x))) where
       pub record Done : Type 0 where
-        pub miss-is : miss ≡ ownIn trace rents t false
-        pub hold-is : hold ≡ ownIn trace rents t true
-        pub sums : leastsIn trace rents t + none ≡ total + miss
+        pub miss-is : miss ≡ own_in trace rents t false
+        pub hold-is : hold ≡ own_in trace rents t true
+        pub sums : leasts_in trace rents t + none ≡ total + miss
         pub miss-top : miss ≤ none + 1000000
         pub hold-top : hold ≤ 1024000000
 
@@ -142,9 +142,9 @@ module _ {trace rents next : List ℕ} (ready : Ready trace rents next) where
       done =
           let d = due in
           let r = req_at trace t p.upto in
-          let ew : (requestAt (traceIn trace).reqs t).write ≡ eqb (kind_at trace t) 1 = ap (λ (q : Request). q.write) r in
-          let ec : (requestAt (traceIn trace).reqs t).cost ≡ costAt trace t = ap (λ (q : Request). q.cost) r in
-          let k = back (rulesIn trace) (rentsIn rents) (traceIn trace).reqs t (omega (arith, reqs-length trace, p.upto)) (h - (paid - x))
+          let ew : (request_at (trace_in trace).reqs t).write ≡ eqb (kind_at trace t) 1 = ap (λ (q : Request). q.write) r in
+          let ec : (request_at (trace_in trace).reqs t).cost ≡ cost_at trace t = ap (λ (q : Request). q.cost) r in
+          let k = back (rules_in trace) (rents_in rents) (trace_in trace).reqs t (omega (arith, reqs_length trace, p.upto)) (h - (paid - x))
           (rw (← next-eq) (omega (arith, d.left, d.held-is, d.below))) in
           let o = rw (ew, ec, ← next-eq, ← d.none_is, ← em) at k.out in
           let i = rw (ew, ec, ← next-eq, ← d.none_is, ← eo) at k.kept in
@@ -155,7 +155,7 @@ module _ {trace rents next : List ℕ} (ready : Ready trace rents next) where
             hold-is = sym i;
             sums = s;
             miss-top = rw em (split (eqb (kind_at trace t) 1) (λ e. rw e (omega arith)) (λ e. rw e (omega arith)));
-            hold-top = le_trans (rw i (omega arith)) (own-top t true);
+            hold-top = le_trans (rw i (omega arith)) (own_top t true);
           }
 
       pub passed-step : Passed trace rents all (set out t miss) (set held t (hold + (paid - x))) (total + miss - none) (paid - x) t
@@ -164,42 +164,42 @@ module _ {trace rents next : List ℕ} (ready : Ready trace rents next) where
           let k = done in
           record {
             upto = omega (arith, p.upto);
-            long-out = simp length-set p.long-out;
-            long-held = simp length-set p.long-held;
+            long_out = simp length-set p.long_out;
+            long_held = simp length-set p.long_held;
             rest = d.left;
             outs = λ v l m. elim (dec_lt t v) [
               | yes z ↦ get_or-set_other out t v miss 0 (λ q. omega arith) ∙ p.outs v z m
-              | no z ↦ let q : v ≡ t = omega arith in rw q (get_or-set_same out t miss 0 (omega (arith, p.long-out, d.place)) ∙ k.miss-is)
+              | no z ↦ let q : v ≡ t = omega arith in rw q (get_or-set_same out t miss 0 (omega (arith, p.long_out, d.place)) ∙ k.miss-is)
             ];
             helds = λ v l m. elim (dec_lt t v) [
               | yes z ↦ get_or-set_other held t v _ all (λ q. omega arith) ∙ p.helds v z m
               | no z ↦ let q : v ≡ t = omega arith in
-                  rw q (get_or-set_same held t _ all (omega (arith, p.long-held, d.place)) ∙ omega (arith, k.hold-is, d.left))
+                  rw q (get_or-set_same held t _ all (omega (arith, p.long_held, d.place)) ∙ omega (arith, k.hold-is, d.left))
             ];
             sum = omega (arith, k.sums);
             small = omega (arith, k.sums, k.miss-top, p.small);
           }
 
 -- where the pass ends the sum is that of all items
-pub passed-all : {trace rents : List ℕ} {all : ℕ} {out held : List ℕ} {total paid : ℕ} → Passed trace rents all out held total paid 0
-    → total ≡ leasts (traceIn trace) (rentsIn rents)
+pub passed_all : {trace rents : List ℕ} {all : ℕ} {out held : List ℕ} {total paid : ℕ} → Passed trace rents all out held total paid 0
+    → total ≡ leasts (trace_in trace) (rents_in rents)
 unfolding leasts
-passed-all p = p.sum
+passed_all p = p.sum
 
 -- ---- the other side
 
 -- the sum of all rents is what is paid up to the last gap
-pub rents-all : {trace rents next : List ℕ} → Ready trace rents next
-    → rentsAll (traceIn trace) (rentsIn rents) ≡ paidTo (rentsIn rents) (length rents)
-unfolding rentsAll
-rents-all {trace} {rents} ready =
-    let q : 0 + length (traceIn trace).reqs ≡ length rents = omega (arith, reqs-length trace, ready.count) in
-    let k = rw q at (rents-paid (rentsIn rents) 0 (traceIn trace).reqs) in
+pub rents_all_lem : {trace rents next : List ℕ} → Ready trace rents next
+    → rents_all (trace_in trace) (rents_in rents) ≡ paid_to (rents_in rents) (length rents)
+unfolding rents_all
+rents_all_lem {trace} {rents} ready =
+    let q : 0 + length (trace_in trace).reqs ≡ length rents = omega (arith, reqs_length trace, ready.count) in
+    let k = rw q at (rents_paid (rents_in rents) 0 (trace_in trace).reqs) in
     omega (arith, k)
 
 -- w times it is small
-pub taken-top : {trace rents next : List ℕ} → Ready trace rents next → slotsAt trace * paidTo (rentsIn rents) (length rents) ≤ 131072000000
-taken-top {trace} {rents} ready =
-    let p : paidTo (rentsIn rents) (length rents) ≤ 2048000000
-    = le_trans (paid-top rents 2000000 (length rents) ready.within) (omega (arith, ready.count, ready.sound.requests)) in
+pub taken_top : {trace rents next : List ℕ} → Ready trace rents next → slots_at trace * paid_to (rents_in rents) (length rents) ≤ 131072000000
+taken_top {trace} {rents} ready =
+    let p : paid_to (rents_in rents) (length rents) ≤ 2048000000
+    = le_trans (paid_top rents 2000000 (length rents) ready.within) (omega (arith, ready.count, ready.sound.requests)) in
     le_trans (mul-le-mul ready.sound.slots p) (lit≤ tt)

@@ -1,21 +1,21 @@
 -- The floor of a trace and a list of rents, over the trace's bytes. Assumes nothing.
 use Rattle.std.specs.Prelude.{ℕ, List, ℤ}
 use Rattle.model.specs.Model.{floor}
-use Rattle.model.specs.Plans.{rentsIn}
+use Rattle.model.specs.Plans.{rents_in}
 use Rattle.model.specs.Refusals.{Tried, next, Answer, fine, refused, answer}
-use Rattle.trace.specs.TraceFile.{requestsAt, traceTried, traceIn}
-use Rattle.plan.specs.PlanFile.{rentsTried}
-use Rattle.replay.specs.Replay.{countTried}
+use Rattle.trace.specs.TraceFile.{requests_at, trace_tried, trace_in}
+use Rattle.plan.specs.PlanFile.{rents_tried}
+use Rattle.replay.specs.Replay.{count_tried}
 use Rattle.floor.specs.declared.Floored.{Floored}
 use Rattle.floor.specs.declared.Floored.TheVariants.{Floor, Refused}
 
 -- rows 1 to 8, 11, 17
-unfoldable pub floorTried : (trace rents : List ℕ) → Tried
-floorTried tr rents = next (traceTried tr) (next (countTried (requestsAt tr) rents) (rentsTried 0 rents))
+unfoldable pub floor_tried : (trace rents : List ℕ) → Tried
+floor_tried tr rents = next (trace_tried tr) (next (count_tried (requests_at tr) rents) (rents_tried 0 rents))
 
 -- the floor
-abbrev pub floorOf : (trace rents : List ℕ) → Answer ℤ
-floorOf tr rents = answer (floorTried tr rents) (floor (traceIn tr) (rentsIn rents))
+abbrev pub floor_of : (trace rents : List ℕ) → Answer ℤ
+floor_of tr rents = answer (floor_tried tr rents) (floor (trace_in tr) (rents_in rents))
 
 -- document 01's number and values for each case of `Floored`
 abbrev pub said : Floored → Answer ℤ

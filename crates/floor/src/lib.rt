@@ -1,7 +1,7 @@
 // The floor of a trace and a list of rents: a signed number, or one of refusals 1 to 8, 11, 17.
 ghost use Rattle.std.specs.Prelude.{◌≡◌};
-ghost use Rattle.floor.specs.Floor.{floorOf, said};
-ghost use Rattle.floor.specs.Sides.{sidesOf, saidSides};
+ghost use Rattle.floor.specs.Floor.{floor_of, said};
+ghost use Rattle.floor.specs.Sides.{sides_of, said_sides};
 
 use model::{Outcome, Refusal, Requests};
 use trace::Checked;
@@ -31,7 +31,7 @@ pub enum Floored {
 
 // The two sides, with the refusals of the floor.
 pub fn sides(trace: &[u8], rents: &[u32]) -> Sided
-    ensures { saidSides result ≡ sidesOf trace.now rents.now }
+    ensures { said_sides result ≡ sides_of trace.now rents.now }
 {
     let mut next = [0u16; Requests::MAX];
     let mut prev = [0u16; Requests::MAX];
@@ -54,7 +54,7 @@ pub fn sides(trace: &[u8], rents: &[u32]) -> Sided
 
 // The floor: the least prices less w times the sum of all rents.
 pub fn floor(trace: &[u8], rents: &[u32]) -> Floored
-    ensures { said result ≡ floorOf trace.now rents.now }
+    ensures { said result ≡ floor_of trace.now rents.now }
 {
     match sides(trace, rents) {
         Sided::Refused(r) => Floored::Refused(r),

@@ -2,10 +2,10 @@
 ghost use Rattle.std.specs.Prelude.{◌≡◌, cond, ℕ, ◌+◌, ◌*◌, ◌≤◌, ◌<◌, min, length, get_or, eqb};
 ghost use Rattle.std.proofs.Math.IntN.{sub_ℕ};
 ghost use Rattle.model.specs.Model.{leasts as leastsOf};
-ghost use Rattle.model.specs.Plans.{rentsIn};
-ghost use Rattle.trace.specs.TraceFile.{fillAt, kind_at, costAt, traceIn};
-ghost use Rattle.floor.specs.Sides.{pairIn};
-ghost use Rattle.floor.specs.Pass.{paidTo, Ready};
+ghost use Rattle.model.specs.Plans.{rents_in};
+ghost use Rattle.trace.specs.TraceFile.{fill_at, kind_at, cost_at, trace_in};
+ghost use Rattle.floor.specs.Sides.{pair_in};
+ghost use Rattle.floor.specs.Pass.{paid_to, Ready};
 
 use crate::Pair;
 use model::Requests;
@@ -27,7 +27,7 @@ pub fn lesser(a: u64, b: u64) -> u64
 // The price from just before request t, its item not held: `none` if it is not held after it, `kept` the price of holding it then.
 pub fn from_out(trace: &[u8], t: usize, none: u64, kept: u64) -> u64
     requires { (none < 4294967296) × (kept < 4294967296) }
-    ensures { result ≡ cond (eqb (kind_at trace.now t) 1) none (costAt trace.now t + min none (fillAt trace.now + kept)) }
+    ensures { result ≡ cond (eqb (kind_at trace.now t) 1) none (cost_at trace.now t + min none (fill_at trace.now + kept)) }
 {
     if trace::kind(trace, t) == 1 {
         return none;
@@ -38,7 +38,7 @@ pub fn from_out(trace: &[u8], t: usize, none: u64, kept: u64) -> u64
 // The same with its item held: a write hit is paid for, and then it may be dropped.
 pub fn from_in(trace: &[u8], t: usize, none: u64, kept: u64) -> u64
     requires { (none < 4294967296) × (kept < 4294967296) }
-    ensures { result ≡ cond (eqb (kind_at trace.now t) 1) (costAt trace.now t) 0 + min none kept }
+    ensures { result ≡ cond (eqb (kind_at trace.now t) 1) (cost_at trace.now t) 0 + min none kept }
 {
     if trace::kind(trace, t) != 1 {
         return lesser(none, kept);
@@ -49,7 +49,7 @@ pub fn from_in(trace: &[u8], t: usize, none: u64, kept: u64) -> u64
 // The sum of all rents.
 pub fn paid(rents: &[u32]) -> u64
     requires { (length rents.now ≤ 1024) × ((t : ℕ) → get_or rents.now t 0 ≤ 2000000) }
-    ensures { result ≡ paidTo (rentsIn rents.now) (length rents.now) }
+    ensures { result ≡ paid_to (rents_in rents.now) (length rents.now) }
 {
     let mut sum: u64 = 0;
     let mut t: usize = 0;
@@ -63,8 +63,8 @@ pub fn paid(rents: &[u32]) -> u64
 // The least prices of the items, added up; `all` is the sum of all rents. The lists hold, for each request passed, the price from
 // just before it with its item not held, and the price with it held and the rents of all gaps up to there.
 pub fn leasts(trace: &[u8], rents: &[u32], next: &[u16; Requests::MAX], all: u64) -> u64
-    requires { Ready trace.now rents.now next.now × (all ≡ paidTo (rentsIn rents.now) (length rents.now)) }
-    ensures { result ≡ leastsOf (traceIn trace.now) (rentsIn rents.now) }
+    requires { Ready trace.now rents.now next.now × (all ≡ paid_to (rents_in rents.now) (length rents.now)) }
+    ensures { result ≡ leastsOf (trace_in trace.now) (rents_in rents.now) }
 {
     let mut out = [0u64; Requests::MAX];
     let mut held = [all; Requests::MAX];
@@ -90,7 +90,7 @@ pub fn leasts(trace: &[u8], rents: &[u32], next: &[u16; Requests::MAX], all: u64
 // The two sides of the floor.
 pub fn both(trace: &[u8], rents: &[u32], next: &[u16; Requests::MAX]) -> Pair
     requires { Ready trace.now rents.now next.now }
-    ensures { result ≡ pairIn trace.now rents.now }
+    ensures { result ≡ pair_in trace.now rents.now }
 {
     let all = paid(rents);
     Pair {

@@ -2,11 +2,11 @@
 // be printed. Each call answers whether the system took it; where it did not, the reason has been said on standard error.
 ghost use Rattle.std.specs.Prelude.{◌≡◌};
 ghost use Rattle.pages.specs.Pages.{Lies};
-ghost use Rattle.sentences.specs.Sentences.{answerPage};
-ghost use Rattle.answers.specs.Answers.{ratedPage};
+ghost use Rattle.sentences.specs.Sentences.{answer_page};
+ghost use Rattle.answers.specs.Answers.{rated_page};
 ghost use Rattle.solver.specs.Solve.{said};
 ghost use Rattle.solver.proofs.Promise.{LeastOf};
-ghost use Rattle.glazepouch.specs.Printed.{page_of, leastPage, Told};
+ghost use Rattle.glazepouch.specs.Printed.{page_of, least_page, Told};
 
 use libc::STDOUT_FILENO;
 use sentences::{ROOM, shown};
@@ -60,7 +60,7 @@ pub fn least(trace: &[u8], found: Solved) -> bool
 }
 
 fn lay_least(found: Solved, page: &mut [u8; ROOM]) -> usize
-    ensures { Lies (answerPage 0 leastPage (said found)) page.old result page.new }
+    ensures { Lies (answer_page 0 least_page (said found)) page.old result page.new }
 {
     match found {
         Solved::Least(cost) => sentences::lay(b"least @\n", &[cost], page),
@@ -82,7 +82,7 @@ pub fn ratio(least: u64, measured: u64) -> bool {
 }
 
 fn print_ratio(least: u64, measured: u64, bytes: &[u8]) -> bool
-    requires { bytes.now ≡ ratedPage least measured }
+    requires { bytes.now ≡ rated_page least measured }
 {
     print(bytes)
 }

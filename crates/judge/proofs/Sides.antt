@@ -7,35 +7,35 @@ use native.Mathlib.Omega.{arith}
 use lib.ListN.{length, take, replicate, length-replicate}
 use lib.IntN.{sub_ℕ}
 use Rattle.model.specs.Refusals.{Tried, passes, row, Answer, fine, refused, answer}
-use Rattle.model.specs.Numbers.{maxRequests}
-use Rattle.trace.specs.TraceFile.{requestsAt}
-use Rattle.plan.specs.PlanFile.{rentsOf}
-use Rattle.plan.specs.Reading.{rentsInto}
-use Rattle.audit.specs.Audit.{planRents, planCost, auditTried}
-use Rattle.floor.specs.Floor.{floorTried}
-use Rattle.floor.specs.Sides.{pairIn, sidesOf}
+use Rattle.model.specs.Numbers.{max_requests}
+use Rattle.trace.specs.TraceFile.{requests_at}
+use Rattle.plan.specs.PlanFile.{rents_of}
+use Rattle.plan.specs.Reading.{rents_into}
+use Rattle.audit.specs.Audit.{plan_rents, plan_cost, audit_tried}
+use Rattle.floor.specs.Floor.{floor_tried}
+use Rattle.floor.specs.Sides.{pair_in, sides_of}
 use Rattle.floor.specs.declared.Pair.{Pair}
-use Rattle.judge.specs.Judge.{isℤ, judgeOf}
-use Rattle.judge.proofs.Passes.{SoundPair, audit-sound}
-use Rattle.judge.proofs.Weighing.{few-requests, rents-read, floor-passes, judged-by-sides}
+use Rattle.judge.specs.Judge.{isℤ, judge_of}
+use Rattle.judge.proofs.Passes.{SoundPair, audit_sound}
+use Rattle.judge.proofs.Weighing.{few_requests, rents_read, floor_passes, judged_by_sides}
 
 module _ (trace plan : List ℕ) (sound : SoundPair trace plan) where
   -- the first n numbers read are the plan's rents
-  pub lent-rents : (n : ℕ) (part out : List ℕ) → n ≡ requestsAt trace → part ≡ rentsOf trace plan
-      → out ≡ rentsInto part (replicate maxRequests 0) → take n out ≡ planRents trace plan
-  lent-rents n part out e p o =
-      let h : requestsAt trace ≤ length (replicate {A = ℕ} maxRequests 0) = rw length-replicate (few-requests trace plan sound) in
-      rw (o, p, e) (rents-read trace plan sound (replicate maxRequests 0) h)
+  pub lent_rents : (n : ℕ) (part out : List ℕ) → n ≡ requests_at trace → part ≡ rents_of trace plan
+      → out ≡ rents_into part (replicate max_requests 0) → take n out ≡ plan_rents trace plan
+  lent_rents n part out e p o =
+      let h : requests_at trace ≤ length (replicate {A = ℕ} max_requests 0) = rw length-replicate (few_requests trace plan sound) in
+      rw (o, p, e) (rents_read trace plan sound (replicate max_requests 0) h)
 
   -- the two sides of the plan's floor are answered
-  pub sides-known : (rents : List ℕ) (s : Answer Pair) → rents ≡ planRents trace plan → s ≡ sidesOf trace rents
-      → s ≡ fine (pairIn trace (planRents trace plan))
-  sides-known rents s e h = h ∙ rw (e, floor-passes trace plan sound)
+  pub sides_known : (rents : List ℕ) (s : Answer Pair) → rents ≡ plan_rents trace plan → s ≡ sides_of trace rents
+      → s ≡ fine (pair_in trace (plan_rents trace plan))
+  sides_known rents s e h = h ∙ rw (e, floor_passes trace plan sound)
 
 -- they decide row 18
-pub sides-decide : (trace plan : List ℕ) → auditTried trace plan ≡ passes → (p : Pair) (c : ℕ) (v : Answer ℕ)
-    → fine p ≡ fine (pairIn trace (planRents trace plan)) → c ≡ planCost trace plan
-    → v ≡ answer (row (not (isℤ (sub_ℕ p.leasts p.taken) c)) 18 0 passes) c → v ≡ judgeOf trace plan
-sides-decide trace plan a p c v e q h =
-    let k : p ≡ pairIn trace (planRents trace plan) = cc in
-    h ∙ rw (k, q) (sym (judged-by-sides trace plan a))
+pub sides_decide : (trace plan : List ℕ) → audit_tried trace plan ≡ passes → (p : Pair) (c : ℕ) (v : Answer ℕ)
+    → fine p ≡ fine (pair_in trace (plan_rents trace plan)) → c ≡ plan_cost trace plan
+    → v ≡ answer (row (not (isℤ (sub_ℕ p.leasts p.taken) c)) 18 0 passes) c → v ≡ judge_of trace plan
+sides_decide trace plan a p c v e q h =
+    let k : p ≡ pair_in trace (plan_rents trace plan) = cc in
+    h ∙ rw (k, q) (sym (judged_by_sides trace plan a))

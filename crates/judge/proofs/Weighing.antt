@@ -7,63 +7,63 @@ use native.Mathlib.Omega.{arith}
 use borrow.Author.Tests.{eq-eqb}
 use lib.ListN.{length, take, drop, length-take, length-drop}
 use lib.IntN.{sub_ℕ}
-use Rattle.fields.specs.Bytes.{putFront}
-use Rattle.model.specs.Model.{leasts, rentsAll, floor}
-use Rattle.model.specs.Numbers.{maxRequests}
-use Rattle.model.specs.Plans.{rentsIn}
+use Rattle.fields.specs.Bytes.{put_front}
+use Rattle.model.specs.Model.{leasts, rents_all, floor}
+use Rattle.model.specs.Numbers.{max_requests}
+use Rattle.model.specs.Plans.{rents_in}
 use Rattle.model.specs.Links.{listed}
 use Rattle.model.specs.Refusals.{Tried, passes, row, next, Answer, answer}
 use Rattle.model.proofs.Links.{length-listed}
-use Rattle.trace.specs.TraceFile.{slotsAt, requestsAt, traceIn}
-use Rattle.trace.proofs.Sound.{sound-trace}
-use Rattle.plan.specs.PlanFile.{shape_of, rentsPart, rentIn, rentsOf}
-use Rattle.plan.specs.Reading.{rentsInto}
-use Rattle.audit.specs.Audit.{planRents, planCost, auditTried}
-use Rattle.floor.specs.Floor.{floorTried}
-use Rattle.judge.specs.Judge.{isℤ, judgeTried, judgeOf}
-use Rattle.judge.proofs.Passes.{SoundPair, audit-sound}
+use Rattle.trace.specs.TraceFile.{slots_at, requests_at, trace_in}
+use Rattle.trace.proofs.Sound.{sound_trace}
+use Rattle.plan.specs.PlanFile.{shape_of, rents_part, rent_in, rents_of}
+use Rattle.plan.specs.Reading.{rents_into}
+use Rattle.audit.specs.Audit.{plan_rents, plan_cost, audit_tried}
+use Rattle.floor.specs.Floor.{floor_tried}
+use Rattle.judge.specs.Judge.{isℤ, judge_tried, judge_of}
+use Rattle.judge.proofs.Passes.{SoundPair, audit_sound}
 
 -- what was put in front stands in front
-take-front : (xs l : List ℕ) → length xs ≤ length l → take (length xs) (putFront xs l) ≡ xs
-take-front [] l h = refl
-take-front (x ∷ xs) [] h = absurd (omega arith)
-take-front (x ∷ xs) (y ∷ l) h = ap (λ (s : List ℕ). x ∷ s) (take-front xs l (omega arith))
+take_front : (xs l : List ℕ) → length xs ≤ length l → take (length xs) (put_front xs l) ≡ xs
+take_front [] l h = refl
+take_front (x ∷ xs) [] h = absurd (omega arith)
+take_front (x ∷ xs) (y ∷ l) h = ap (λ (s : List ℕ). x ∷ s) (take_front xs l (omega arith))
 
 -- the same, of n numbers
-take-listed : (f : ℕ → ℕ) (n k : ℕ) (l : List ℕ) → k ≡ n → n ≤ length l → take n (putFront (listed f k 0) l) ≡ listed f n 0
-take-listed f n k l e h =
+take_listed : (f : ℕ → ℕ) (n k : ℕ) (l : List ℕ) → k ≡ n → n ≤ length l → take n (put_front (listed f k 0) l) ≡ listed f n 0
+take_listed f n k l e h =
     let m : length (listed f n 0) ≡ n = length-listed f n 0 in
-    rw e (rw m at (take-front (listed f n 0) l (omega arith)))
+    rw e (rw m at (take_front (listed f n 0) l (omega arith)))
 
 module _ (trace plan : List ℕ) (sound : SoundPair trace plan) where
   -- a sound trace has at most 1,024 requests
-  pub few-requests : requestsAt trace ≤ maxRequests
-  few-requests = (sound-trace trace sound.trace).requests
+  pub few_requests : requests_at trace ≤ max_requests
+  few_requests = (sound_trace trace sound.trace).requests
 
-  part-long : length (rentsPart (shape_of (requestsAt trace)) plan) / 4 ≡ requestsAt trace
-  part-long =
-      let n = requestsAt trace in
+  part_long : length (rents_part (shape_of (requests_at trace)) plan) / 4 ≡ requests_at trace
+  part_long =
+      let n = requests_at trace in
       let e = sound.plan.long in
       omega (arith, length-take (4 * n) (drop (16 + n) plan), length-drop (16 + n) plan)
 
   -- the rents read into a list with room for them are the plan's
-  pub rents-read : (out : List ℕ) → requestsAt trace ≤ length out
-      → take (requestsAt trace) (rentsInto (rentsOf trace plan) out) ≡ planRents trace plan
-  rents-read out h =
-      let n = requestsAt trace in
-      rw sound.section (take-listed (rentIn (rentsPart (shape_of n) plan)) n _ out part-long h)
+  pub rents_read : (out : List ℕ) → requests_at trace ≤ length out
+      → take (requests_at trace) (rents_into (rents_of trace plan) out) ≡ plan_rents trace plan
+  rents_read out h =
+      let n = requests_at trace in
+      rw sound.section (take_listed (rent_in (rents_part (shape_of n) plan)) n _ out part_long h)
 
   -- the floor of the plan's rents has no refusal
-  pub floor-passes : floorTried trace (planRents trace plan) ≡ passes
-  unfolding floorTried
-  floor-passes =
-      let n = requestsAt trace in
-      let e : length (planRents trace plan) ≡ n = length-listed (rentIn (rentsPart (shape_of n) plan)) n 0 in
+  pub floor_passes : floor_tried trace (plan_rents trace plan) ≡ passes
+  unfolding floor_tried
+  floor_passes =
+      let n = requests_at trace in
+      let e : length (plan_rents trace plan) ≡ n = length-listed (rent_in (rents_part (shape_of n) plan)) n 0 in
       rw (sound.trace, eq-eqb _ _ e) sound.rents
 
 -- row 18 by the two sides of the floor
-pub judged-by-sides : (trace plan : List ℕ) → auditTried trace plan ≡ passes → judgeOf trace plan
-    ≡ answer (row (not (isℤ (sub_ℕ (leasts (traceIn trace) (rentsIn (planRents trace plan)))
-    (slotsAt trace * rentsAll (traceIn trace) (rentsIn (planRents trace plan)))) (planCost trace plan))) 18 0 passes) (planCost trace plan)
-unfolding judgeTried floor
-judged-by-sides trace plan a = rw a
+pub judged_by_sides : (trace plan : List ℕ) → audit_tried trace plan ≡ passes → judge_of trace plan
+    ≡ answer (row (not (isℤ (sub_ℕ (leasts (trace_in trace) (rents_in (plan_rents trace plan)))
+    (slots_at trace * rents_all (trace_in trace) (rents_in (plan_rents trace plan)))) (plan_cost trace plan))) 18 0 passes) (plan_cost trace plan)
+unfolding judge_tried floor
+judged_by_sides trace plan a = rw a

@@ -2,11 +2,11 @@
 use Rattle.std.specs.Prelude.{◌≡◌, ℕ, Bool, true, false, List, [], ◌∷◌, ℤ, pos}
 use Rattle.model.specs.Model.{Rules, Request, Trace, cost}
 use Rattle.model.specs.Refusals.{Answer, fine, refused}
-use Rattle.trace.specs.TraceFile.{traceBytes}
-use Rattle.plan.specs.PlanFile.{planBytes}
+use Rattle.trace.specs.TraceFile.{trace_bytes}
+use Rattle.plan.specs.PlanFile.{plan_bytes}
 use Rattle.replay.specs.Replay.{named}
-use Rattle.floor.specs.Floor.{floorOf}
-use Rattle.judge.specs.Judge.{judgeOf}
+use Rattle.floor.specs.Floor.{floor_of}
+use Rattle.judge.specs.Judge.{judge_of}
 
 -- ---- what a row says
 
@@ -24,22 +24,22 @@ pub record Row : Type 0 where
   pub verdict : Verdict
 
 -- the bytes of its trace
-abbrev pub traceOf : Row → List ℕ
-traceOf r = traceBytes r.trace
+abbrev pub trace_of : Row → List ℕ
+trace_of r = trace_bytes r.trace
 
 -- the bytes of its plan: the stated cost is that of the contents that the flags name
 abbrev pub plan_of : Row → List ℕ
-plan_of r = planBytes (cost r.trace (named r.trace r.flags)) r.flags r.rents
+plan_of r = plan_bytes (cost r.trace (named r.trace r.flags)) r.flags r.rents
 
 -- these bytes are answered so
 abbrev pub Answers : Verdict → (trace plan rents : List ℕ) → Type 0
-Answers (accepted c) tr pl rents = judgeOf tr pl ≡ fine c
-Answers (refusal n p) tr pl rents = judgeOf tr pl ≡ refused n p
-Answers (short f) tr pl rents = (floorOf tr rents ≡ fine (pos f)) × (judgeOf tr pl ≡ refused 18 0)
+Answers (accepted c) tr pl rents = judge_of tr pl ≡ fine c
+Answers (refusal n p) tr pl rents = judge_of tr pl ≡ refused n p
+Answers (short f) tr pl rents = (floor_of tr rents ≡ fine (pos f)) × (judge_of tr pl ≡ refused 18 0)
 
 -- the row is right
 abbrev pub Right : Row → Type 0
-Right r = Answers r.verdict (traceOf r) (plan_of r) r.rents
+Right r = Answers r.verdict (trace_of r) (plan_of r) r.rents
 
 -- every row is right
 abbrev pub AllRight : List Row → Type 0
@@ -82,12 +82,12 @@ abbrev pub none : List ℕ
 none = 0 ∷ 0 ∷ 0 ∷ []
 
 -- flags 110100: a and b are kept
-abbrev pub keepBoth : List ℕ
-keepBoth = 1 ∷ 1 ∷ 0 ∷ 1 ∷ 0 ∷ 0 ∷ []
+abbrev pub keep_both : List ℕ
+keep_both = 1 ∷ 1 ∷ 0 ∷ 1 ∷ 0 ∷ 0 ∷ []
 
 -- flags 100100: a alone is kept
-abbrev pub keepOne : List ℕ
-keepOne = 1 ∷ 0 ∷ 0 ∷ 1 ∷ 0 ∷ 0 ∷ []
+abbrev pub keep_one : List ℕ
+keep_one = 1 ∷ 0 ∷ 0 ∷ 1 ∷ 0 ∷ 0 ∷ []
 
 -- a row from its four parts
 abbrev pub line : Trace → (flags rents : List ℕ) → Verdict → Row
@@ -95,11 +95,11 @@ line tr flags rents v = record { trace = tr; flags = flags; rents = rents; verdi
 
 -- two slots hold a and b
 abbrev pub A2 : Row
-A2 = line (A 2 4) keepBoth (six 0) (accepted 38)
+A2 = line (A 2 4) keep_both (six 0) (accepted 38)
 
 -- one slot, and a rent where it is wanted twice
 abbrev pub A1 : Row
-A1 = line (A 1 4) keepOne (0 ∷ 6 ∷ 0 ∷ 0 ∷ 0 ∷ 0 ∷ []) (accepted 44)
+A1 = line (A 1 4) keep_one (0 ∷ 6 ∷ 0 ∷ 0 ∷ 0 ∷ 0 ∷ []) (accepted 44)
 
 -- no slots, and every rent at its limit
 abbrev pub A0 : Row
@@ -107,15 +107,15 @@ A0 = line (A 0 4) (six 0) (six 2000000) (accepted 60)
 
 -- A1 with rents 0
 abbrev pub A1z : Row
-A1z = line (A 1 4) keepOne (six 0) (short 38)
+A1z = line (A 1 4) keep_one (six 0) (short 38)
 
 -- A1 with its rent at a gap that nothing wants
 abbrev pub A1e : Row
-A1e = line (A 1 4) keepOne (0 ∷ 0 ∷ 0 ∷ 0 ∷ 6 ∷ 0 ∷ []) (short 38)
+A1e = line (A 1 4) keep_one (0 ∷ 0 ∷ 0 ∷ 0 ∷ 6 ∷ 0 ∷ []) (short 38)
 
 -- A1 with a in gap 2 beside b
 abbrev pub A1f : Row
-A1f = line (A 1 4) keepBoth (six 0) (refusal 15 2)
+A1f = line (A 1 4) keep_both (six 0) (refusal 15 2)
 
 -- A2 with a flag at b's last request
 abbrev pub A2l : Row
@@ -144,5 +144,5 @@ E = line nothing [] [] (accepted 0)
 -- document 01's table
 abbrev pub rows : List Row
 rows =
-    A2 ∷ A1 ∷ A0 ∷ A1z ∷ A1e ∷ A1f ∷ A2l ∷ T keepBoth ∷ T keepOne
+    A2 ∷ A1 ∷ A0 ∷ A1z ∷ A1e ∷ A1f ∷ A2l ∷ T keep_both ∷ T keep_one
     ∷ B7 ∷ B8 (1 ∷ 1 ∷ 0 ∷ []) ∷ B8 none ∷ B9 ∷ E ∷ []

@@ -2,8 +2,8 @@
 ghost use Rattle.std.specs.Prelude.{◌≡◌, not};
 ghost use Rattle.std.proofs.Math.IntN.{sub_ℕ};
 ghost use Rattle.model.specs.Refusals.{passes, row, answer};
-ghost use Rattle.audit.specs.Audit.{planCost, auditTried};
-ghost use Rattle.judge.specs.Judge.{isℤ, said, judgeOf};
+ghost use Rattle.audit.specs.Audit.{plan_cost, audit_tried};
+ghost use Rattle.judge.specs.Judge.{isℤ, said, judge_of};
 
 use audit::Audited;
 use floor::Sided;
@@ -18,7 +18,7 @@ pub enum Judged {
 
 // The audit, then row 18.
 pub fn judge(trace: &[u8], plan: &[u8]) -> Judged
-    ensures { said result ≡ judgeOf trace.now plan.now }
+    ensures { said result ≡ judge_of trace.now plan.now }
 {
     match audit::audit(trace, plan) {
         Audited::Refused(r) => Judged::Refused(r),
@@ -28,8 +28,8 @@ pub fn judge(trace: &[u8], plan: &[u8]) -> Judged
 
 // Row 18, for a sound plan of this cost.
 fn weighed(trace: &[u8], plan: &[u8], cost: u64) -> Judged
-    requires { (auditTried trace.now plan.now ≡ passes) × (cost ≡ planCost trace.now plan.now) }
-    ensures { said result ≡ judgeOf trace.now plan.now }
+    requires { (audit_tried trace.now plan.now ≡ passes) × (cost ≡ plan_cost trace.now plan.now) }
+    ensures { said result ≡ judge_of trace.now plan.now }
 {
     let mut rents = [0u32; Requests::MAX];
     plan::read_rents(plan::rents(trace, plan), &mut rents);

@@ -8,29 +8,29 @@ use mathlib.Core.List.{List, ◌++◌, append_assoc}
 use lib.ListN.{length, get_or, drop, set, replicate, length-set, length-replicate, get_or-append}
 use lib.Seq.{drop-cons, set_at}
 use borrow.Author.Tests.{lt-ltb, le-ltb, eq-eqb, ne_eqb}
-use Rattle.model.specs.Numbers.{maxSlots}
-use Rattle.model.specs.Plans.{flagsIn, requestAt, contents}
-use Rattle.model.specs.Links.{prevOf}
+use Rattle.model.specs.Numbers.{max_slots}
+use Rattle.model.specs.Plans.{flags_in, request_at, contents}
+use Rattle.model.specs.Links.{prev_of}
 use Rattle.model.proofs.Sums.{split}
-use Rattle.trace.specs.TraceFile.{requestsAt, traceIn}
-use Rattle.trace.proofs.Sound.{reqs-length}
-use Rattle.replay.specs.Linked.{flagAt}
-use Rattle.replay.proofs.Linked.{held-before}
-use Rattle.lanes.specs.Lanes.{firstFree, placeAt, chartTo, rows_of}
-use Rattle.lanes.specs.Steps.{Ready, Turn, placeBy, Laying}
-use Rattle.lanes.proofs.Charts.{keeper-below, chart-place-low, chart-each}
+use Rattle.trace.specs.TraceFile.{requests_at, trace_in}
+use Rattle.trace.proofs.Sound.{reqs_length}
+use Rattle.replay.specs.Linked.{flag_at}
+use Rattle.replay.proofs.Linked.{held_before}
+use Rattle.lanes.specs.Lanes.{first_free, place_at, chart_to, rows_of}
+use Rattle.lanes.specs.Steps.{Ready, Turn, place_by, Laying}
+use Rattle.lanes.proofs.Charts.{keeper_below, chart_place_low, chart_each}
 
 -- ---- the row of one request, by what the tests on the lists say
 
 module _ (flags prevs busy rows : List ℕ) (t p : ℕ) (e : p ≡ get_or prevs t 0) where
-  pub place-held : p < length flags → get_or flags p 0 ≡ 1 → get_or rows p 0 ≡ placeBy flags prevs busy rows t
-  place-held l h = rw (← e, lt-ltb p (length flags) l, eq-eqb (get_or flags p 0) 1 h)
+  pub place_held : p < length flags → get_or flags p 0 ≡ 1 → get_or rows p 0 ≡ place_by flags prevs busy rows t
+  place_held l h = rw (← e, lt-ltb p (length flags) l, eq-eqb (get_or flags p 0) 1 h)
 
-  pub place-dropped : p < length flags → (get_or flags p 0 ≡ 1 → ⊥) → firstFree busy ≡ placeBy flags prevs busy rows t
-  place-dropped l h = rw (← e, lt-ltb p (length flags) l, ne_eqb (get_or flags p 0) 1 h)
+  pub place_dropped : p < length flags → (get_or flags p 0 ≡ 1 → ⊥) → first_free busy ≡ place_by flags prevs busy rows t
+  place_dropped l h = rw (← e, lt-ltb p (length flags) l, ne_eqb (get_or flags p 0) 1 h)
 
-  pub place-new : length flags ≤ p → firstFree busy ≡ placeBy flags prevs busy rows t
-  place-new l = rw (← e, le-ltb p (length flags) l)
+  pub place_new : length flags ≤ p → first_free busy ≡ place_by flags prevs busy rows t
+  place_new l = rw (← e, le-ltb p (length flags) l)
 
 -- ---- the loop
 
@@ -38,58 +38,58 @@ module _ (flags prevs busy rows : List ℕ) (t p : ℕ) (e : p ≡ get_or prevs 
 pub record Drawing (tr flags old busy rows : List ℕ) (t : ℕ) : Type 0 where
   pub upto : t ≤ length flags
   pub long : length rows ≡ length old
-  pub spare : length busy ≡ suc maxSlots
-  pub taken : busy ≡ (chartTo (traceIn tr).reqs (flagsIn flags) t).busy
-  pub given : rows ≡ (chartTo (traceIn tr).reqs (flagsIn flags) t).rows ++ drop t old
+  pub spare : length busy ≡ suc max_slots
+  pub taken : busy ≡ (chart_to (trace_in tr).reqs (flags_in flags) t).busy
+  pub given : rows ≡ (chart_to (trace_in tr).reqs (flags_in flags) t).rows ++ drop t old
 
-pub drawing-start : (tr flags old : List ℕ) → Drawing tr flags old (replicate (suc maxSlots) 0) old 0
-drawing-start tr flags old = record {
+pub drawing_start : (tr flags old : List ℕ) → Drawing tr flags old (replicate (suc max_slots) 0) old 0
+drawing_start tr flags old = record {
   upto = omega arith;
   long = refl;
-  spare = length-replicate {A = ℕ} (suc maxSlots) 0;
+  spare = length-replicate {A = ℕ} (suc max_slots) 0;
   taken = refl;
   given = refl;
 }
 
 module _ {tr flags prevs old busy rows : List ℕ} {t : ℕ} (b : Ready tr flags prevs old) (v : Drawing tr flags old busy rows t) where
   -- the row by the lists is that of the chart
-  drawing-place : t < length flags
-      → placeBy flags prevs busy rows t ≡ placeAt (traceIn tr).reqs (flagsIn flags) t (chartTo (traceIn tr).reqs (flagsIn flags) t)
-  drawing-place l =
-      let rs = (traceIn tr).reqs in
-      let x = flagsIn flags in
-      let own = (requestAt rs t).item in
-      let n : t < requestsAt tr = omega (arith, b.back.count) in
+  drawing_place : t < length flags
+      → place_by flags prevs busy rows t ≡ place_at (trace_in tr).reqs (flags_in flags) t (chart_to (trace_in tr).reqs (flags_in flags) t)
+  drawing_place l =
+      let rs = (trace_in tr).reqs in
+      let x = flags_in flags in
+      let own = (request_at rs t).item in
+      let n : t < requests_at tr = omega (arith, b.back.count) in
       split (contents rs x t own)
-      (λ e. let k : get_or rows (prevOf rs t) 0 ≡ get_or (chartTo rs x t).rows (prevOf rs t) 0 =
-      rw v.given (get_or-append (chartTo rs x t).rows (drop t old) 0 (prevOf rs t)
-      (omega (arith, chart-each rs x t, keeper-below rs x t own (omega (arith, reqs-length tr)) e))) in
-      rw (held-before b.back t n, e, b.back.prev t n) k)
-      (λ e. rw (held-before b.back t n, e, v.taken))
+      (λ e. let k : get_or rows (prev_of rs t) 0 ≡ get_or (chart_to rs x t).rows (prev_of rs t) 0 =
+      rw v.given (get_or-append (chart_to rs x t).rows (drop t old) 0 (prev_of rs t)
+      (omega (arith, chart_each rs x t, keeper_below rs x t own (omega (arith, reqs_length tr)) e))) in
+      rw (held_before b.back t n, e, b.back.prev t n) k)
+      (λ e. rw (held_before b.back t n, e, v.taken))
 
-  pub drawing-turn : t < length flags → Turn flags rows t
-  drawing-turn l = record {
+  pub drawing_turn : t < length flags → Turn flags rows t
+  drawing_turn l = record {
     here = l;
     few = omega (arith, b.back.count, b.back.sound.requests);
     long = omega (arith, b.long, v.long);
   }
 
   -- and one of those that there are
-  pub drawing-low : t < length flags → placeBy flags prevs busy rows t ≤ maxSlots
-  drawing-low l =
-      rw (drawing-place l)
-      (chart-place-low (traceIn tr) (flagsIn flags) b.sound b.back.sound.slots t (omega (arith, reqs-length tr, b.back.count)))
+  pub drawing_low : t < length flags → place_by flags prevs busy rows t ≤ max_slots
+  drawing_low l =
+      rw (drawing_place l)
+      (chart_place_low (trace_in tr) (flags_in flags) b.sound b.back.sound.slots t (omega (arith, reqs_length tr, b.back.count)))
 
   -- one request more
-  pub drawing-on : (here mark row : ℕ) → t < length flags → here ≡ placeBy flags prevs busy rows t
-      → mark ≡ cond (flagAt flags t) 1 0 → row ≡ cond (flagAt flags t) here 0 → Drawing tr flags old (set busy here mark) (set rows t row) (t + 1)
-  drawing-on here mark row l e f g =
-      let rs = (traceIn tr).reqs in
-      let x = flagsIn flags in
+  pub drawing_on : (here mark row : ℕ) → t < length flags → here ≡ place_by flags prevs busy rows t
+      → mark ≡ cond (flag_at flags t) 1 0 → row ≡ cond (flag_at flags t) here 0 → Drawing tr flags old (set busy here mark) (set rows t row) (t + 1)
+  drawing_on here mark row l e f g =
+      let rs = (trace_in tr).reqs in
+      let x = flags_in flags in
       let m : t < length old = omega (arith, b.long) in
-      let q : here ≡ placeAt rs x t (chartTo rs x t) = e ∙ drawing-place l in
-      let cut = set_at (chartTo rs x t).rows (get_or old t 0) (drop (suc t) old) row t (chart-each rs x t) in
-      let k : row ≡ cond (flagAt flags t) (placeAt rs x t (chartTo rs x t)) 0 = g ∙ ap (λ (z : ℕ). cond (flagAt flags t) z 0) q in
+      let q : here ≡ place_at rs x t (chart_to rs x t) = e ∙ drawing_place l in
+      let cut = set_at (chart_to rs x t).rows (get_or old t 0) (drop (suc t) old) row t (chart_each rs x t) in
+      let k : row ≡ cond (flag_at flags t) (place_at rs x t (chart_to rs x t)) 0 = g ∙ ap (λ (z : ℕ). cond (flag_at flags t) z 0) q in
       record {
         upto = omega arith;
         long = length-set rows t row ∙ v.long;
@@ -98,11 +98,11 @@ module _ {tr flags prevs old busy rows : List ℕ} {t : ℕ} (b : Ready tr flags
         given = rw (add-one, v.given, drop-cons old t 0 m, append_assoc, ← k) cut;
       }
 
-  pub drawing-end : length flags ≤ t → Laying tr flags old rows
+  pub drawing_end : length flags ≤ t → Laying tr flags old rows
   unfolding rows_of
-  drawing-end l =
-      let e : t ≡ requestsAt tr = omega (arith, b.back.count) in
-      let n : length (traceIn tr).reqs ≡ requestsAt tr = reqs-length tr in
+  drawing_end l =
+      let e : t ≡ requests_at tr = omega (arith, b.back.count) in
+      let n : length (trace_in tr).reqs ≡ requests_at tr = reqs_length tr in
       v.given
-      ∙ ap (λ (k : ℕ). (chartTo (traceIn tr).reqs (flagsIn flags) k).rows ++ drop t old) (e ∙ sym n)
-      ∙ ap (λ (k : ℕ). rows_of (traceIn tr) (flagsIn flags) ++ drop k old) e
+      ∙ ap (λ (k : ℕ). (chart_to (trace_in tr).reqs (flags_in flags) k).rows ++ drop t old) (e ∙ sym n)
+      ∙ ap (λ (k : ℕ). rows_of (trace_in tr) (flags_in flags) ++ drop k old) e

@@ -8,119 +8,119 @@ use mathlib.Core.List.{List, ◌++◌}
 use lib.ListN.{length, get_or, drop, take}
 use lib.Seq.{take_at}
 use borrow.Author.Tests.{eq-eqb}
-use Rattle.model.specs.Numbers.{maxSlots, maxRequests}
+use Rattle.model.specs.Numbers.{max_slots, max_requests}
 use Rattle.model.specs.Model.{Trace}
-use Rattle.model.specs.Plans.{Flags, flagsIn, requestAt, contents, SoundFlags}
-use Rattle.model.specs.Links.{prevTo, prevOf}
+use Rattle.model.specs.Plans.{Flags, flags_in, request_at, contents, SoundFlags}
+use Rattle.model.specs.Links.{prev_to, prev_of}
 use Rattle.model.specs.Refusals.{Tried, passes, said, fine, refused}
 use Rattle.model.specs.declared.Refusal.{Refusal}
 use Rattle.model.specs.declared.Outcome.{Outcome}
 use Rattle.model.specs.declared.Outcome.TheVariants.{Sound, Refused}
-use Rattle.model.proofs.Refusals.{answer-fine, answer-refused}
-use Rattle.trace.specs.TraceFile.{requestsAt, traceIn}
+use Rattle.model.proofs.Refusals.{answer_fine, answer_refused}
+use Rattle.trace.specs.TraceFile.{requests_at, trace_in}
 use Rattle.trace.specs.declared.Checked.{Checked}
-use Rattle.trace.proofs.Sound.{sound-trace, reqs-length}
+use Rattle.trace.proofs.Sound.{sound_trace, reqs_length}
 use Rattle.links.specs.Promise.{Filled}
-use Rattle.replay.specs.Replay.{Totals, totalsOf, replayTried, replayOf}
-use Rattle.replay.proofs.Laws.{replay-passes, flags-sound}
-use Rattle.replay.proofs.Answered.{filled-forward}
-use Rattle.lanes.specs.Lanes.{Drawn, row_in, placeAt, chartTo, rows_of, Laned}
+use Rattle.replay.specs.Replay.{Totals, totals_of, replay_tried, replay_of}
+use Rattle.replay.proofs.Laws.{replay_passes, flags_sound}
+use Rattle.replay.proofs.Answered.{filled_forward}
+use Rattle.lanes.specs.Lanes.{Drawn, row_in, place_at, chart_to, rows_of, Laned}
 use Rattle.lanes.specs.Steps.{Ready, Laying}
-use Rattle.lanes.proofs.Charts.{keeper-below, chart-shows, chart-each, chart-keeps, chart-row}
+use Rattle.lanes.proofs.Charts.{keeper_below, chart_shows, chart_each, chart_keeps, chart_row}
 
 -- ---- sound flags
 
 -- a row for each request
-pub rows-each : (tr : Trace) (x : Flags) → length (rows_of tr x) ≡ length tr.reqs
+pub rows_each : (tr : Trace) (x : Flags) → length (rows_of tr x) ≡ length tr.reqs
 unfolding rows_of
-rows-each tr x = chart-each tr.reqs x (length tr.reqs)
+rows_each tr x = chart_each tr.reqs x (length tr.reqs)
 
 -- the row of a held item is that of the chart up to its gap
-row-then : (tr : Trace) (x : Flags) (g i : ℕ) → g ≤ length tr.reqs → contents tr.reqs x g i ≡ true
-    → row_in tr.reqs (rows_of tr x) g i ≡ row_in tr.reqs (chartTo tr.reqs x g).rows g i
+row_then : (tr : Trace) (x : Flags) (g i : ℕ) → g ≤ length tr.reqs → contents tr.reqs x g i ≡ true
+    → row_in tr.reqs (rows_of tr x) g i ≡ row_in tr.reqs (chart_to tr.reqs x g).rows g i
 unfolding rows_of
-row-then tr x g i l h = chart-keeps tr.reqs x (length tr.reqs) g (prevTo tr.reqs g i) (keeper-below tr.reqs x g i l h) l
+row_then tr x g i l h = chart_keeps tr.reqs x (length tr.reqs) g (prev_to tr.reqs g i) (keeper_below tr.reqs x g i l h) l
 
 -- an item that is kept on keeps its row
-row_stays : (tr : Trace) (x : Flags) (t : ℕ) → t < length tr.reqs → contents tr.reqs x t (requestAt tr.reqs t).item ≡ true
-    → contents tr.reqs x (suc t) (requestAt tr.reqs t).item ≡ true → get_or (rows_of tr x) t 0 ≡ get_or (rows_of tr x) (prevOf tr.reqs t) 0
+row_stays : (tr : Trace) (x : Flags) (t : ℕ) → t < length tr.reqs → contents tr.reqs x t (request_at tr.reqs t).item ≡ true
+    → contents tr.reqs x (suc t) (request_at tr.reqs t).item ≡ true → get_or (rows_of tr x) t 0 ≡ get_or (rows_of tr x) (prev_of tr.reqs t) 0
 unfolding rows_of
 row_stays tr x t l h k =
     let rs = tr.reqs in
-    let a : x (suc t) ≡ true = rw (eq-eqb (requestAt rs t).item (requestAt rs t).item refl) at k in
-    let p : placeAt rs x t (chartTo rs x t) ≡ get_or (chartTo rs x t).rows (prevOf rs t) 0 = rw h in
-    chart-keeps rs x (length rs) (suc t) t (omega arith) l
-    ∙ chart-row rs x t
+    let a : x (suc t) ≡ true = rw (eq-eqb (request_at rs t).item (request_at rs t).item refl) at k in
+    let p : place_at rs x t (chart_to rs x t) ≡ get_or (chart_to rs x t).rows (prev_of rs t) 0 = rw h in
+    chart_keeps rs x (length rs) (suc t) t (omega arith) l
+    ∙ chart_row rs x t
     ∙ rw a p
-    ∙ sym (chart-keeps rs x (length rs) t (prevOf rs t) (keeper-below rs x t (requestAt rs t).item (omega arith) h) (omega arith))
+    ∙ sym (chart_keeps rs x (length rs) t (prev_of rs t) (keeper_below rs x t (request_at rs t).item (omega arith) h) (omega arith))
 
 -- every held item has a row of a slot, and no row shows two items in one gap
-pub rows-drawn : (tr : Trace) (x : Flags) → SoundFlags tr x → tr.rules.slots ≤ maxSlots → Drawn tr x (rows_of tr x)
-rows-drawn tr x s few =
+pub rows_drawn : (tr : Trace) (x : Flags) → SoundFlags tr x → tr.rules.slots ≤ max_slots → Drawn tr x (rows_of tr x)
+rows_drawn tr x s few =
     let rs = tr.reqs in
     record {
-      each = rows-each tr x;
-      has = λ g i l h. omega (arith, rows-each tr x, keeper-below rs x g i l h);
-      within = λ g i l h. omega (arith, row-then tr x g i l h, (chart-shows tr x s few g l).within i h);
-      apart = λ g i j l h k n e. n ((chart-shows tr x s few g l).apart i j h k (sym (row-then tr x g i l h) ∙ e ∙ row-then tr x g j l k));
+      each = rows_each tr x;
+      has = λ g i l h. omega (arith, rows_each tr x, keeper_below rs x g i l h);
+      within = λ g i l h. omega (arith, row_then tr x g i l h, (chart_shows tr x s few g l).within i h);
+      apart = λ g i j l h k n e. n ((chart_shows tr x s few g l).apart i j h k (sym (row_then tr x g i l h) ∙ e ∙ row_then tr x g j l k));
       stays = row_stays tr x;
     }
 
 -- ---- the call
 
 -- where no row holds: the lists are ready for the rows
-pub lists-ready : {tr flags old on op nexts prevs : List ℕ} {r : Checked} {s : Totals} → fine s ≡ replayOf tr flags → Filled tr on op r nexts prevs
-    → length old ≡ maxRequests → Ready tr flags prevs old
-lists-ready {tr} {flags} {old} {s = s} e f n =
-    let p = replay-passes tr flags (answer-fine (replayTried tr flags) (totalsOf (traceIn tr) flags) s e).0 in
+pub lists_ready : {tr flags old on op nexts prevs : List ℕ} {r : Checked} {s : Totals} → fine s ≡ replay_of tr flags → Filled tr on op r nexts prevs
+    → length old ≡ max_requests → Ready tr flags prevs old
+lists_ready {tr} {flags} {old} {s = s} e f n =
+    let p = replay_passes tr flags (answer_fine (replay_tried tr flags) (totals_of (trace_in tr) flags) s e).0 in
     record {
-      back = (filled-forward f p.trace p.count).back;
-      sound = flags-sound (traceIn tr) flags p.rows;
-      long = omega (arith, p.count, (sound-trace tr p.trace).requests);
+      back = (filled_forward f p.trace p.count).back;
+      sound = flags_sound (trace_in tr) flags p.rows;
+      long = omega (arith, p.count, (sound_trace tr p.trace).requests);
     }
 
-pub laned-refused : (tr flags old : List ℕ) (r : Refusal) → refused r.number r.place ≡ replayOf tr flags → Laned tr flags old (Refused r) old
-laned-refused tr flags old r e =
-    let k = answer-refused (replayTried tr flags) (totalsOf (traceIn tr) flags) r.number r.place e in
+pub laned_refused : (tr flags old : List ℕ) (r : Refusal) → refused r.number r.place ≡ replay_of tr flags → Laned tr flags old (Refused r) old
+laned_refused tr flags old r e =
+    let k = answer_refused (replay_tried tr flags) (totals_of (trace_in tr) flags) r.number r.place e in
     record { answer = sym k; laid_out = rw k }
 
 -- as many rows as requests
-rows-count : (tr flags : List ℕ) → length (rows_of (traceIn tr) (flagsIn flags)) ≡ requestsAt tr
-rows-count tr flags = rows-each (traceIn tr) (flagsIn flags) ∙ reqs-length tr
+rows_count : (tr flags : List ℕ) → length (rows_of (trace_in tr) (flags_in flags)) ≡ requests_at tr
+rows_count tr flags = rows_each (trace_in tr) (flags_in flags) ∙ reqs_length tr
 
-pub laned-sound : {tr flags old rows : List ℕ} (s : Totals) → fine s ≡ replayOf tr flags → Laying tr flags old rows → Laned tr flags old Sound rows
-laned-sound {tr} {flags} {old} s e h =
-    let k = (answer-fine (replayTried tr flags) (totalsOf (traceIn tr) flags) s e).0 in
+pub laned_sound : {tr flags old rows : List ℕ} (s : Totals) → fine s ≡ replay_of tr flags → Laying tr flags old rows → Laned tr flags old Sound rows
+laned_sound {tr} {flags} {old} s e h =
+    let k = (answer_fine (replay_tried tr flags) (totals_of (trace_in tr) flags) s e).0 in
     record {
       answer = sym k;
-      laid_out = rw k (h ∙ ap (λ (n : ℕ). rows_of (traceIn tr) (flagsIn flags) ++ drop n old) (sym (rows-count tr flags)));
+      laid_out = rw k (h ∙ ap (λ (n : ℕ). rows_of (trace_in tr) (flags_in flags) ++ drop n old) (sym (rows_count tr flags)));
     }
 
 -- where the call answers Sound, the first n of the lent list are a chart: no row shows two items in one gap
-pub lanes-drawn : {trace flags old rows : List ℕ} {r : Outcome} → Laned trace flags old r rows → r ≡ Sound
-    → Drawn (traceIn trace) (flagsIn flags) (take (requestsAt trace) rows)
-lanes-drawn {trace} {flags} {old} {rows} {r} a e =
-    let k : replayTried trace flags ≡ passes = sym a.answer ∙ ap said e in
-    let p = replay-passes trace flags k in
-    let new = rows_of (traceIn trace) (flagsIn flags) in
+pub lanes_drawn : {trace flags old rows : List ℕ} {r : Outcome} → Laned trace flags old r rows → r ≡ Sound
+    → Drawn (trace_in trace) (flags_in flags) (take (requests_at trace) rows)
+lanes_drawn {trace} {flags} {old} {rows} {r} a e =
+    let k : replay_tried trace flags ≡ passes = sym a.answer ∙ ap said e in
+    let p = replay_passes trace flags k in
+    let new = rows_of (trace_in trace) (flags_in flags) in
     let q : rows ≡ new ++ drop (length new) old = rw k at a.laid_out in
-    let front : take (requestsAt trace) rows ≡ new = ap (take (requestsAt trace)) q ∙ take_at new _ (requestsAt trace) (rows-count trace flags) in
-    subst (Drawn (traceIn trace) (flagsIn flags)) (sym front)
-    (rows-drawn (traceIn trace) (flagsIn flags) (flags-sound (traceIn trace) flags p.rows) (sound-trace trace p.trace).slots)
+    let front : take (requests_at trace) rows ≡ new = ap (take (requests_at trace)) q ∙ take_at new _ (requests_at trace) (rows_count trace flags) in
+    subst (Drawn (trace_in trace) (flags_in flags)) (sym front)
+    (rows_drawn (trace_in trace) (flags_in flags) (flags_sound (trace_in trace) flags p.rows) (sound_trace trace p.trace).slots)
 
 -- ---- one outcome
 
-outcome-unique : (a b : Outcome) (x : Tried) → said a ≡ x → said b ≡ x → a ≡ b
-outcome-unique Sound Sound x p q = refl
-outcome-unique Sound (Refused r) x p q = absurd (let z : ◌≡◌ {A = ℕ} 0 1 = cc in omega arith)
-outcome-unique (Refused r) Sound x p q = absurd (let z : ◌≡◌ {A = ℕ} 0 1 = cc in omega arith)
-outcome-unique (Refused r) (Refused s) x p q =
+outcome_unique : (a b : Outcome) (x : Tried) → said a ≡ x → said b ≡ x → a ≡ b
+outcome_unique Sound Sound x p q = refl
+outcome_unique Sound (Refused r) x p q = absurd (let z : ◌≡◌ {A = ℕ} 0 1 = cc in omega arith)
+outcome_unique (Refused r) Sound x p q = absurd (let z : ◌≡◌ {A = ℕ} 0 1 = cc in omega arith)
+outcome_unique (Refused r) (Refused s) x p q =
     let n : r.number ≡ s.number = cc in
     let m : r.place ≡ s.place = cc in
     λ i. Refused (record { number = n i; place = m i })
 
 -- any two answers and lent lists that the promise permits coincide
-pub lanes-unique : {trace flags old : List ℕ} {r s : Outcome} {rows₁ rows₂ : List ℕ} → Laned trace flags old r rows₁ → Laned trace flags old s rows₂
+pub lanes_unique : {trace flags old : List ℕ} {r s : Outcome} {rows₁ rows₂ : List ℕ} → Laned trace flags old r rows₁ → Laned trace flags old s rows₂
     → (r ≡ s) × (rows₁ ≡ rows₂)
-lanes-unique {trace} {flags} {old} {r} {s} a b =
-    (outcome-unique r s (replayTried trace flags) a.answer b.answer, a.laid_out ∙ sym b.laid_out)
+lanes_unique {trace} {flags} {old} {r} {s} a b =
+    (outcome_unique r s (replay_tried trace flags) a.answer b.answer, a.laid_out ∙ sym b.laid_out)

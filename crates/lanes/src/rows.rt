@@ -1,7 +1,7 @@
 // The rows, given request by request: an item keeps its row while it is held, and a fill takes the first that is free.
 ghost use Rattle.std.specs.Prelude.{◌≡◌, cond};
-ghost use Rattle.lanes.specs.Lanes.{firstFree};
-ghost use Rattle.lanes.specs.Steps.{Ready, Turn, placeBy, Laying};
+ghost use Rattle.lanes.specs.Lanes.{first_free};
+ghost use Rattle.lanes.specs.Steps.{Ready, Turn, place_by, Laying};
 
 use model::{Requests, Slots};
 
@@ -31,7 +31,7 @@ pub fn kept(after: bool, x: u8) -> u8
 
 // The first row that is free.
 pub fn free(busy: &[u8]) -> usize
-    ensures { result ≡ firstFree busy.now }
+    ensures { result ≡ first_free busy.now }
 {
     let mut r: usize = 0;
     while r < busy.len() {
@@ -46,7 +46,7 @@ pub fn free(busy: &[u8]) -> usize
 // The row of request t's item: its old one where it was held before, else the first that is free.
 pub fn place(flags: &[u8], prev: &[u16; Requests::MAX], busy: &[u8], rows: &[u8], t: usize) -> usize
     requires { Turn flags.now rows.now t }
-    ensures { result ≡ placeBy flags.now prev.now busy.now rows.now t }
+    ensures { result ≡ place_by flags.now prev.now busy.now rows.now t }
 {
     let p = wide(prev[t]);
     if p < flags.len() {

@@ -5,23 +5,23 @@ use Rattle.pages.specs.Letters.{letters}
 use Rattle.decimal.specs.Decimal.{decimal}
 
 -- `least C`
-unfoldable pub leastLine : (cost : ℕ) → List ℕ
-leastLine cost = letters "least " ++ (decimal cost ++ letters "\n")
+unfoldable pub least_line : (cost : ℕ) → List ℕ
+least_line cost = letters "least " ++ (decimal cost ++ letters "\n")
 
 -- `accepted C`
-unfoldable pub acceptedLine : (cost : ℕ) → List ℕ
-acceptedLine cost = letters "accepted " ++ (decimal cost ++ letters "\n")
+unfoldable pub accepted_line : (cost : ℕ) → List ℕ
+accepted_line cost = letters "accepted " ++ (decimal cost ++ letters "\n")
 
 -- `refused N at P`
-unfoldable pub refusedLine : (number place : ℕ) → List ℕ
-refusedLine number place = letters "refused " ++ (decimal number ++ (letters " at " ++ (decimal place ++ letters "\n")))
+unfoldable pub refused_line : (number place : ℕ) → List ℕ
+refused_line number place = letters "refused " ++ (decimal number ++ (letters " at " ++ (decimal place ++ letters "\n")))
 
 -- the line of what solve answers
-abbrev pub solvedLine : Answer ℕ → List ℕ
-solvedLine (fine cost) = leastLine cost
-solvedLine (refused number place) = refusedLine number place
+abbrev pub solved_line : Answer ℕ → List ℕ
+solved_line (fine cost) = least_line cost
+solved_line (refused number place) = refused_line number place
 
 -- the line of what the judge answers
-abbrev pub judgedLine : Answer ℕ → List ℕ
-judgedLine (fine cost) = acceptedLine cost
-judgedLine (refused number place) = refusedLine number place
+abbrev pub judged_line : Answer ℕ → List ℕ
+judged_line (fine cost) = accepted_line cost
+judged_line (refused number place) = refused_line number place

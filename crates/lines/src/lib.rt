@@ -1,7 +1,7 @@
 // The one line that a program prints as its answer, laid from the start of a lent page. Each call answers how long the line is.
 ghost use Rattle.std.specs.Prelude.{◌≡◌, take};
 ghost use Rattle.pages.specs.Pages.{Lies};
-ghost use Rattle.lines.specs.Lines.{leastLine, acceptedLine, refusedLine};
+ghost use Rattle.lines.specs.Lines.{least_line, accepted_line, refused_line};
 
 use model::Refusal;
 
@@ -10,7 +10,7 @@ pub const ROOM: usize = 64;
 
 // `least C`.
 pub fn least(cost: u64, line: &mut [u8; ROOM]) -> usize
-    ensures { Lies (leastLine cost) line.old result line.new }
+    ensures { Lies (least_line cost) line.old result line.new }
 {
     let word = pages::bytes(line, 0, b"least ");
     let digits = decimal::lay(line, word, cost);
@@ -19,7 +19,7 @@ pub fn least(cost: u64, line: &mut [u8; ROOM]) -> usize
 
 // `accepted C`.
 pub fn accepted(cost: u64, line: &mut [u8; ROOM]) -> usize
-    ensures { Lies (acceptedLine cost) line.old result line.new }
+    ensures { Lies (accepted_line cost) line.old result line.new }
 {
     let word = pages::bytes(line, 0, b"accepted ");
     let digits = decimal::lay(line, word, cost);
@@ -28,7 +28,7 @@ pub fn accepted(cost: u64, line: &mut [u8; ROOM]) -> usize
 
 // `refused N at P`.
 pub fn refused(r: Refusal, line: &mut [u8; ROOM]) -> usize
-    ensures { Lies (refusedLine r.number r.place) line.old result line.new }
+    ensures { Lies (refused_line r.number r.place) line.old result line.new }
 {
     refusal(r.number, r.place, line)
 }
@@ -42,7 +42,7 @@ pub fn shown(line: &[u8; ROOM], size: usize) -> &[u8]
 
 // `refused N at P` of two numbers: as parameters they are known to fit their type.
 fn refusal(number: u64, place: u64, line: &mut [u8; ROOM]) -> usize
-    ensures { Lies (refusedLine number place) line.old result line.new }
+    ensures { Lies (refused_line number place) line.old result line.new }
 {
     let word = pages::bytes(line, 0, b"refused ");
     let first = decimal::lay(line, word, number);

@@ -4,82 +4,82 @@ use Prim.Native.Nat.{ℕ, ◌≤◌, ◌<◌}
 use native.Mathlib.Omega.{arith}
 use mathlib.Core.List.{List, ◌++◌}
 use lib.ListN.{length, get_or, drop, get_or-append}
-use Rattle.model.specs.Numbers.{maxRequests}
+use Rattle.model.specs.Numbers.{max_requests}
 use Rattle.model.specs.Model.{Request}
-use Rattle.model.specs.Plans.{requestAt}
-use Rattle.model.specs.Links.{next_of, prevOf, listed}
+use Rattle.model.specs.Plans.{request_at}
+use Rattle.model.specs.Links.{next_of, prev_of, listed}
 use Rattle.model.specs.Refusals.{Tried, passes, refusal, fine, refused, answer}
 use Rattle.model.specs.declared.Refusal.{Refusal}
-use Rattle.model.proofs.Links.{length-listed, getD-listed}
-use Rattle.model.proofs.Refusals.{answer-fine, answer-refused}
-use Rattle.trace.specs.TraceFile.{requestsAt, traceTried, traceIn}
-use Rattle.trace.specs.Answers.{said, checkOf, headerIn}
+use Rattle.model.proofs.Links.{length-listed, get_d_listed}
+use Rattle.model.proofs.Refusals.{answer_fine, answer_refused}
+use Rattle.trace.specs.TraceFile.{requests_at, trace_tried, trace_in}
+use Rattle.trace.specs.Answers.{said, check_of, header_in}
 use Rattle.trace.specs.declared.Header.{Header}
 use Rattle.trace.specs.declared.Checked.{Checked}
 use Rattle.trace.specs.declared.Checked.TheVariants.{Sound, Refused}
-use Rattle.trace.proofs.Sound.{sound-trace, reqs-length, req_at, check-unique}
-use Rattle.links.specs.Linked.{nexts, prevs, laid, nextsIn, prevsIn}
+use Rattle.trace.proofs.Sound.{sound_trace, reqs_length, req_at, check_unique}
+use Rattle.links.specs.Linked.{nexts, prevs, laid, nexts_in, prevs_in}
 use Rattle.links.specs.Promise.{Filled}
 use Rattle.links.specs.Chains.{Read, Nexts, NextsLaid, Cleared, Single, Turned}
 use Rattle.links.proofs.Fills.{front, nexts-are, next-of-one, prevs-are}
 
 -- what is laid down of n numbers
-laid-front : (t : Tried) (n : ℕ) (new old : List ℕ) → t ≡ passes → length new ≡ n → laid t new old ≡ new ++ drop n old
-laid-front t n new old e l = rw (e, l)
+laid_front : (t : Tried) (n : ℕ) (new old : List ℕ) → t ≡ passes → length new ≡ n → laid t new old ≡ new ++ drop n old
+laid_front t n new old e l = rw (e, l)
 
 -- ---- a trace that is refused
 
-pub filled-refused : (tr next prev : List ℕ) (r : Refusal) → said (Refused r) ≡ checkOf tr → Filled tr next prev (Refused r) next prev
-filled-refused tr next prev r e =
-    let k = answer-refused (traceTried tr) (headerIn tr) r.number r.place e in
+pub filled_refused : (tr next prev : List ℕ) (r : Refusal) → said (Refused r) ≡ check_of tr → Filled tr next prev (Refused r) next prev
+filled_refused tr next prev r e =
+    let k = answer_refused (trace_tried tr) (header_in tr) r.number r.place e in
     record { answer = e; nexts = rw k; prevs = rw k }
 
 -- ---- a sound one
 
-module _ (tr : List ℕ) (h : Header) (e : said (Sound h) ≡ checkOf tr) where
-  passed : traceTried tr ≡ passes
-  passed = (answer-fine (traceTried tr) (headerIn tr) h e).0
+module _ (tr : List ℕ) (h : Header) (e : said (Sound h) ≡ check_of tr) where
+  passed : trace_tried tr ≡ passes
+  passed = (answer_fine (trace_tried tr) (header_in tr) h e).0
 
-  counted : h.requests ≡ requestsAt tr
-  counted = ap (λ (x : Header). x.requests) (answer-fine (traceTried tr) (headerIn tr) h e).1
+  counted : h.requests ≡ requests_at tr
+  counted = ap (λ (x : Header). x.requests) (answer_fine (trace_tried tr) (header_in tr) h e).1
 
-  all : length (traceIn tr).reqs ≡ h.requests
-  all = reqs-length tr ∙ sym counted
+  all : length (trace_in tr).reqs ≡ h.requests
+  all = reqs_length tr ∙ sym counted
 
-  pub few-requests : h.requests ≤ maxRequests
-  few-requests = rw counted (sound-trace tr passed).requests
+  pub few_requests : h.requests ≤ max_requests
+  few_requests = rw counted (sound_trace tr passed).requests
 
   module _ {items : List ℕ} (read : Read tr items h.requests) where
-    same : (t : ℕ) → t < h.requests → get_or items t 0 ≡ (requestAt (traceIn tr).reqs t).item
+    same : (t : ℕ) → t < h.requests → get_or items t 0 ≡ (request_at (trace_in tr).reqs t).item
     same t l = read.on t l ∙ sym (ap (λ (x : Request). x.item) (req_at tr t (omega (arith, counted))))
 
     pub single : {next prev prev' : List ℕ} → Nexts items next h.requests 0 → Cleared h.requests prev prev'
         → h.requests ≤ length next → h.requests ≤ length prev' → Single next prev' h.requests
     single {next} w c a b = record {
-      few = few-requests;
-      all-next = a;
-      all-prev = b;
+      few = few_requests;
+      all_next = a;
+      all_prev = b;
       none = c.none;
-      one = next-of-one (traceIn tr).reqs items h.requests all same next w;
+      one = next-of-one (trace_in tr).reqs items h.requests all same next w;
     }
 
     pub filled-sound : {next prev next' chain clear prev' : List ℕ} → NextsLaid items h.requests next prev next' chain
         → Cleared h.requests chain clear → Turned h.requests next' clear prev'
         → h.requests ≤ length next' → h.requests ≤ length prev' → Filled tr next prev (Sound h) next' prev'
     filled-sound {next} {prev} {next'} {chain} {clear} {prev'} l c t a b =
-        let rs = (traceIn tr).reqs in
+        let rs = (trace_in tr).reqs in
         let n = h.requests in
         let long-nexts = length-listed (next_of rs) (length rs) 0 ∙ all in
-        let long-prevs = length-listed (prevOf rs) (length rs) 0 ∙ all in
+        let long-prevs = length-listed (prev_of rs) (length rs) 0 ∙ all in
         let f : next' ≡ nexts rs ++ drop n next =
         rw all (front (next_of rs) n next' next a (nexts-are rs items n all same next' l.nexts) l.kept) in
         let g : prev' ≡ prevs rs ++ drop n prev =
-        rw all (front (prevOf rs) n prev' prev b (prevs-are rs items n all same next' l.nexts prev' t.undoes)
+        rw all (front (prev_of rs) n prev' prev b (prevs-are rs items n all same next' l.nexts prev' t.undoes)
         (t.kept ∙ c.kept ∙ l.rest)) in
         record {
           answer = e;
-          nexts = f ∙ sym (laid-front (traceTried tr) n (nexts rs) next passed long-nexts);
-          prevs = g ∙ sym (laid-front (traceTried tr) n (prevs rs) prev passed long-prevs);
+          nexts = f ∙ sym (laid_front (trace_tried tr) n (nexts rs) next passed long-nexts);
+          prevs = g ∙ sym (laid_front (trace_tried tr) n (prevs rs) prev passed long-prevs);
         }
 
 -- ---- what a caller finds in the lists of a sound trace
@@ -87,20 +87,20 @@ module _ (tr : List ℕ) (h : Header) (e : said (Sound h) ≡ checkOf tr) where
 at_front : (f : ℕ → ℕ) (n t : ℕ) (rest : List ℕ) → t < n → get_or (listed f n 0 ++ rest) t 0 ≡ f t
 at_front f n t rest l =
     let long = length-listed f n 0 in
-    get_or-append (listed f n 0) rest 0 t (omega arith) ∙ getD-listed f n 0 t 0 l ∙ ap f (omega arith)
+    get_or-append (listed f n 0) rest 0 t (omega arith) ∙ get_d_listed f n 0 t 0 l ∙ ap f (omega arith)
 
-pub next-at : (tr old : List ℕ) (t : ℕ) → traceTried tr ≡ passes → t < requestsAt tr
-    → get_or (nextsIn tr old) t 0 ≡ next_of (traceIn tr).reqs t
-next-at tr old t e l = rw e (at_front (next_of (traceIn tr).reqs) (length (traceIn tr).reqs) t _ (omega (arith, reqs-length tr)))
+pub next_at : (tr old : List ℕ) (t : ℕ) → trace_tried tr ≡ passes → t < requests_at tr
+    → get_or (nexts_in tr old) t 0 ≡ next_of (trace_in tr).reqs t
+next_at tr old t e l = rw e (at_front (next_of (trace_in tr).reqs) (length (trace_in tr).reqs) t _ (omega (arith, reqs_length tr)))
 
-pub prev-at : (tr old : List ℕ) (t : ℕ) → traceTried tr ≡ passes → t < requestsAt tr
-    → get_or (prevsIn tr old) t 0 ≡ prevOf (traceIn tr).reqs t
-prev-at tr old t e l = rw e (at_front (prevOf (traceIn tr).reqs) (length (traceIn tr).reqs) t _ (omega (arith, reqs-length tr)))
+pub prev_at : (tr old : List ℕ) (t : ℕ) → trace_tried tr ≡ passes → t < requests_at tr
+    → get_or (prevs_in tr old) t 0 ≡ prev_of (trace_in tr).reqs t
+prev_at tr old t e l = rw e (at_front (prev_of (trace_in tr).reqs) (length (trace_in tr).reqs) t _ (omega (arith, reqs_length tr)))
 
 -- ---- one outcome
 
 -- any two answers and lent lists that the promise permits coincide
-pub links-unique : {trace next prev : List ℕ} {r s : Checked} {next₁ prev₁ next₂ prev₂ : List ℕ}
+pub links_unique : {trace next prev : List ℕ} {r s : Checked} {next₁ prev₁ next₂ prev₂ : List ℕ}
     → Filled trace next prev r next₁ prev₁ → Filled trace next prev s next₂ prev₂ → (r ≡ s) × (next₁ ≡ next₂) × (prev₁ ≡ prev₂)
-links-unique {trace} {next} {prev} {r} {s} a b =
-    (check-unique r s (checkOf trace) a.answer b.answer, a.nexts ∙ sym b.nexts, a.prevs ∙ sym b.prevs)
+links_unique {trace} {next} {prev} {r} {s} a b =
+    (check_unique r s (check_of trace) a.answer b.answer, a.nexts ∙ sym b.nexts, a.prevs ∙ sym b.prevs)

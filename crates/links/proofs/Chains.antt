@@ -9,21 +9,21 @@ use lib.ListN.{length, get_or, set, drop, replicate, length-set, length-replicat
 use lib.Seq.{get_or-set_same, get_or-set_other, drop-set-lt}
 use lib.Dec.{eqb}
 use borrow.Author.Tests.{eqb-true, eqb-false}
-use Rattle.model.specs.Numbers.{maxRequests}
+use Rattle.model.specs.Numbers.{max_requests}
 use Rattle.model.proofs.Sums.{split}
-use Rattle.links.specs.Chains.{First, itemIn, bucketIn, Chained, Nexts, Heads, Room, Ready, NextsLaid}
+use Rattle.links.specs.Chains.{First, item_in, bucket_in, Chained, Nexts, Heads, Room, Ready, NextsLaid}
 
 -- the walk for the next request of t has come to j: j is in t's bucket, and t's item is not asked for before j
 pub record Walking (items : List ℕ) (n t item j : ℕ) : Type 0 where
-  pub same : item ≡ itemIn items t
+  pub same : item ≡ item_in items t
   pub from : suc t ≤ j
   pub upto : j ≤ n
-  pub has : j < n → bucketIn items n j ≡ bucketIn items n t
-  pub none : (s : ℕ) → suc t ≤ s → s < j → itemIn items s ≡ itemIn items t → ⊥
+  pub has : j < n → bucket_in items n j ≡ bucket_in items n t
+  pub none : (s : ℕ) → suc t ≤ s → s < j → item_in items s ≡ item_in items t → ⊥
 
 module _ {items chain : List ℕ} {n t : ℕ} where
-  pub walk-starts : {start : ℕ} → Ready items chain n t start → Walking items n t (itemIn items t) start
-  walk-starts r = record {
+  pub walk_starts : {start : ℕ} → Ready items chain n t start → Walking items n t (item_in items t) start
+  walk_starts r = record {
     same = refl;
     from = r.first.from;
     upto = r.first.upto;
@@ -32,7 +32,7 @@ module _ {items chain : List ℕ} {n t : ℕ} where
   }
 
   pub walk_steps : {start item j : ℕ} → Ready items chain n t start → Walking items n t item j → j < n
-      → (itemIn items j ≡ item → ⊥) → Walking items n t item (get_or chain j 0)
+      → (item_in items j ≡ item → ⊥) → Walking items n t item (get_or chain j 0)
   walk_steps {start} {item} {j} r w l other =
       let k = r.chained.on j w.from l in
       record {
@@ -50,18 +50,18 @@ module _ {items chain : List ℕ} {n t : ℕ} where
       }
 
 module _ {items : List ℕ} {n t item j : ℕ} (w : Walking items n t item j) where
-  pub walk-finds : itemIn items j ≡ item → First (itemIn items) n (itemIn items t) (suc t) j
-  walk-finds e = record { from = w.from; upto = w.upto; has = λ l. e ∙ w.same; none = w.none }
+  pub walk_finds : item_in items j ≡ item → First (item_in items) n (item_in items t) (suc t) j
+  walk_finds e = record { from = w.from; upto = w.upto; has = λ l. e ∙ w.same; none = w.none }
 
-  pub walk_ends : n ≤ j → First (itemIn items) n (itemIn items t) (suc t) j
+  pub walk_ends : n ≤ j → First (item_in items) n (item_in items t) (suc t) j
   walk_ends e = record { from = w.from; upto = w.upto; has = λ l. absurd (omega arith); none = w.none }
 
 -- the requests from t on are chained and have their next requests; past n the lent lists are kept
 pub record Linking (items next₀ chain₀ head next chain : List ℕ) (n t : ℕ) : Type 0 where
   pub upto : t ≤ n
-  pub long-head : length head ≡ maxRequests
-  pub long-next : length next ≡ length next₀
-  pub long-chain : length chain ≡ length chain₀
+  pub long_head : length head ≡ max_requests
+  pub long_next : length next ≡ length next₀
+  pub long_chain : length chain ≡ length chain₀
   pub heads : Heads items head n t
   pub chained : Chained items chain n t
   pub nexts : Nexts items next n t
@@ -70,16 +70,16 @@ pub record Linking (items next₀ chain₀ head next chain : List ℕ) (n t : �
 
 module _ {n t : ℕ} where
   -- a key's first request from t on, once t is looked at
-  first-at : (key : ℕ → ℕ) (v : ℕ) → t < n → key t ≡ v → First key n v t t
-  first-at key v l e = record {
+  first_here : (key : ℕ → ℕ) (v : ℕ) → t < n → key t ≡ v → First key n v t t
+  first_here key v l e = record {
     from = omega arith;
     upto = omega arith;
     has = λ m. e;
     none = λ s a b z. omega arith;
   }
 
-  first-before : {key : ℕ → ℕ} {v m : ℕ} → First key n v (suc t) m → (key t ≡ v → ⊥) → First key n v t m
-  first-before f o = record {
+  first_before : {key : ℕ → ℕ} {v m : ℕ} → First key n v (suc t) m → (key t ≡ v → ⊥) → First key n v t m
+  first_before f o = record {
     from = omega (arith, f.from);
     upto = f.upto;
     has = f.has;
@@ -89,15 +89,15 @@ module _ {n t : ℕ} where
     ];
   }
 
-pub link-starts : {items next chain : List ℕ} {n : ℕ} → Room items next chain n
-    → Linking items next chain (replicate maxRequests n) next chain n n
-link-starts {items} {next} {chain} {n} room = record {
+pub link_starts : {items next chain : List ℕ} {n : ℕ} → Room items next chain n
+    → Linking items next chain (replicate max_requests n) next chain n n
+link_starts {items} {next} {chain} {n} room = record {
   upto = omega arith;
-  long-head = length-replicate maxRequests n;
-  long-next = refl;
-  long-chain = refl;
+  long_head = length-replicate max_requests n;
+  long_next = refl;
+  long_chain = refl;
   heads = record {
-    on = λ v l. rw (get_or-replicate maxRequests v n 0 (omega arith)) (record {
+    on = λ v l. rw (get_or-replicate max_requests v n 0 (omega arith)) (record {
       from = omega arith;
       upto = omega arith;
       has = λ m. absurd (omega arith);
@@ -115,41 +115,41 @@ module _ {items next₀ chain₀ head next chain : List ℕ} {n t : ℕ} (room :
   below : t < n
   below = w.upto
 
-  in-bucket : bucketIn items n t < n
-  in-bucket = mod-lt (itemIn items t) (omega (arith, w.upto))
+  in_bucket : bucket_in items n t < n
+  in_bucket = mod-lt (item_in items t) (omega (arith, w.upto))
 
-  pub link-ready : Ready items chain n t (get_or head (bucketIn items n t) 0)
-  unfolding below in-bucket
-  link-ready = record {
-    all-items = room.all-items;
-    all-chain = omega (arith, room.all-chain, w.long-chain);
+  pub link_ready : Ready items chain n t (get_or head (bucket_in items n t) 0)
+  unfolding below in_bucket
+  link_ready = record {
+    all_items = room.all_items;
+    all_chain = omega (arith, room.all_chain, w.long_chain);
     here = below;
-    first = w.heads.on (bucketIn items n t) in-bucket;
+    first = w.heads.on (bucket_in items n t) in_bucket;
     chained = w.chained;
   }
 
-  pub link-steps : (m : ℕ) → First (itemIn items) n (itemIn items t) (suc t) m
-      → Linking items next₀ chain₀ (set head (bucketIn items n t) t) (set next t m) (set chain t (get_or head (bucketIn items n t) 0)) n t
-  unfolding below in-bucket
-  link-steps m f =
-      let b = bucketIn items n t in
+  pub link_steps : (m : ℕ) → First (item_in items) n (item_in items t) (suc t) m
+      → Linking items next₀ chain₀ (set head (bucket_in items n t) t) (set next t m) (set chain t (get_or head (bucket_in items n t) 0)) n t
+  unfolding below in_bucket
+  link_steps m f =
+      let b = bucket_in items n t in
       let l : t < n = below in
-      let ib : b < n = in-bucket in
-      let h0 = w.long-head in
-      let n0 = w.long-next in
-      let c0 = w.long-chain in
-      let room_next = room.all-next in
-      let room-chain = room.all-chain in
+      let ib : b < n = in_bucket in
+      let h0 = w.long_head in
+      let n0 = w.long_next in
+      let c0 = w.long_chain in
+      let room_next = room.all_next in
+      let room-chain = room.all_chain in
       let few = room.few in
       record {
         upto = omega arith;
-        long-head = length-set head b t ∙ h0;
-        long-next = length-set next t m ∙ n0;
-        long-chain = length-set chain t (get_or head b 0) ∙ c0;
+        long_head = length-set head b t ∙ h0;
+        long_next = length-set next t m ∙ n0;
+        long_chain = length-set chain t (get_or head b 0) ∙ c0;
         heads = record {
           on = λ v y. split (eqb v b)
-              (λ e. rw (eqb-true v b e, get_or-set_same head b t 0 (omega arith)) (first-at (bucketIn items n) b l refl))
-              (λ e. rw (get_or-set_other head b v t 0 (eqb-false v b e)) (first-before (w.heads.on v y) (λ z. eqb-false v b e (sym z))));
+              (λ e. rw (eqb-true v b e, get_or-set_same head b t 0 (omega arith)) (first_here (bucket_in items n) b l refl))
+              (λ e. rw (get_or-set_other head b v t 0 (eqb-false v b e)) (first_before (w.heads.on v y) (λ z. eqb-false v b e (sym z))));
         };
         chained = record {
           on = λ s y z. elim (dec_lt t s) [
@@ -169,13 +169,13 @@ module _ {items next₀ chain₀ head next chain : List ℕ} {n t : ℕ} (room :
       }
 
 -- a request more is left to look at
-pub link-back : {items next₀ chain₀ head next chain : List ℕ} {n t : ℕ} → Linking items next₀ chain₀ head next chain n t → 0 < t
+pub link_back : {items next₀ chain₀ head next chain : List ℕ} {n t : ℕ} → Linking items next₀ chain₀ head next chain n t → 0 < t
     → Linking items next₀ chain₀ head next chain n (suc (t - 1))
-link-back {items} {next₀} {chain₀} {head} {next} {chain} {n} {t} w l =
+link_back {items} {next₀} {chain₀} {head} {next} {chain} {n} {t} w l =
     subst (λ (x : ℕ). Linking items next₀ chain₀ head next chain n x) (omega arith) w
 
 -- none is left to look at
-pub link-ends : {items next₀ chain₀ head next chain : List ℕ} {n t : ℕ} → Linking items next₀ chain₀ head next chain n t → t ≤ 0
+pub link_ends : {items next₀ chain₀ head next chain : List ℕ} {n t : ℕ} → Linking items next₀ chain₀ head next chain n t → t ≤ 0
     → NextsLaid items n next₀ chain₀ next chain
-link-ends {items} {next₀} {chain₀} {head} {next} {chain} {n} {t} w l =
+link_ends {items} {next₀} {chain₀} {head} {next} {chain} {n} {t} w l =
     let q : t ≡ 0 = omega arith in record { nexts = rw q at w.nexts; kept = w.kept; rest = w.rest }

@@ -8,10 +8,10 @@ use mathlib.Core.List.{List, ◌++◌}
 use lib.ListN.{length, get_or, take, drop, take-append-drop}
 use lib.Seq.{length-take-le, get_or-take, ext_get_or}
 use Rattle.model.specs.Model.{Request}
-use Rattle.model.specs.Plans.{requestAt}
-use Rattle.model.specs.Links.{next_of, prevOf, listed}
-use Rattle.model.proofs.Links.{is-next, prev-is, prev-of-next, next-of-prev, length-listed, getD-listed}
-use Rattle.links.specs.Chains.{First, itemIn, Nexts, Undoes}
+use Rattle.model.specs.Plans.{request_at}
+use Rattle.model.specs.Links.{next_of, prev_of, listed}
+use Rattle.model.proofs.Links.{is_next, prev_is, prev_of_next, next_of_prev, length-listed, get_d_listed}
+use Rattle.links.specs.Chains.{First, item_in, Nexts, Undoes}
 
 -- a list whose first n places have f's values, and which is kept past n
 pub front : (f : ℕ → ℕ) (n : ℕ) (new old : List ℕ) → n ≤ length new → ((t : ℕ) → t < n → get_or new t 0 ≡ f t)
@@ -21,14 +21,14 @@ front f n new old l on kept =
     let e : take n new ≡ listed f n 0 =
     ext_get_or 0 (take n new) (listed f n 0) (long ∙ sym (length-listed f n 0))
     (λ i h. let m : i < n = omega arith in
-    get_or-take n new i 0 m ∙ on i m ∙ sym (getD-listed f n 0 i 0 m ∙ ap f (omega arith))) in
+    get_or-take n new i 0 m ∙ on i m ∙ sym (get_d_listed f n 0 i 0 m ∙ ap f (omega arith))) in
     sym (take-append-drop n new) ∙ (rw (e, kept) refl)
 
 module _ (rs : List Request) (items : List ℕ) (n : ℕ) (all : length rs ≡ n)
-    (same : (t : ℕ) → t < n → itemIn items t ≡ (requestAt rs t).item) where
+    (same : (t : ℕ) → t < n → item_in items t ≡ (request_at rs t).item) where
   -- the first request of t's item after t is the next
-  pub first_next : (t m : ℕ) → t < n → First (itemIn items) n (itemIn items t) (suc t) m → m ≡ next_of rs t
-  first_next t m l f = sym (is-next rs t m (record {
+  pub first_next : (t m : ℕ) → t < n → First (item_in items) n (item_in items t) (suc t) m → m ≡ next_of rs t
+  first_next t m l f = sym (is_next rs t m (record {
     from = f.from;
     upto = omega (arith, f.upto);
     has = λ h. let k : m < n = omega arith in sym (same m k) ∙ f.has k ∙ same t l;
@@ -40,23 +40,23 @@ module _ (rs : List Request) (items : List ℕ) (n : ℕ) (all : length rs ≡ n
     nexts-are t l = first_next t (get_or next t 0) l (w.on t (omega arith) l)
 
     -- what the next request of t undoes
-    undone : (t : ℕ) → t < n → get_or next t 0 < n → prevOf rs (get_or next t 0) ≡ t
-    undone t l m = let e = nexts-are t l in rw e (prev-of-next rs t (omega arith))
+    undone : (t : ℕ) → t < n → get_or next t 0 < n → prev_of rs (get_or next t 0) ≡ t
+    undone t l m = let e = nexts-are t l in rw e (prev_of_next rs t (omega arith))
 
     pub next-of-one : (s t : ℕ) → s < n → t < n → get_or next s 0 ≡ get_or next t 0 → get_or next t 0 < n → s ≡ t
-    next-of-one s t a b e l = sym (undone s a (omega arith)) ∙ ap (prevOf rs) e ∙ undone t b l
+    next-of-one s t a b e l = sym (undone s a (omega arith)) ∙ ap (prev_of rs) e ∙ undone t b l
 
-    pub prevs-are : (prev : List ℕ) → Undoes next prev n n → (t : ℕ) → t < n → get_or prev t 0 ≡ prevOf rs t
+    pub prevs-are : (prev : List ℕ) → Undoes next prev n n → (t : ℕ) → t < n → get_or prev t 0 ≡ prev_of rs t
     prevs-are prev u t l =
-        elim (dec_lt (prevOf rs t) n) [
-          | yes y ↦ let k = next-of-prev rs t (omega arith) (omega arith) in
-              let e : get_or next (prevOf rs t) 0 ≡ t = nexts-are (prevOf rs t) y ∙ k.1 in
-              let b = u.back (prevOf rs t) y (omega arith) in
+        elim (dec_lt (prev_of rs t) n) [
+          | yes y ↦ let k = next_of_prev rs t (omega arith) (omega arith) in
+              let e : get_or next (prev_of rs t) 0 ≡ t = nexts-are (prev_of rs t) y ∙ k.1 in
+              let b = u.back (prev_of rs t) y (omega arith) in
               (rw e at b)
-          | no y ↦ let top = (prev-is rs t (omega arith)).upto in
+          | no y ↦ let top = (prev_is rs t (omega arith)).upto in
               ⊎_elim
               (λ e. omega arith)
               (λ k. let q : get_or next (get_or prev t 0) 0 ≡ t = k.1 in
-              sym (undone (get_or prev t 0) k.0 (omega arith)) ∙ ap (prevOf rs) q)
+              sym (undone (get_or prev t 0) k.0 (omega arith)) ∙ ap (prev_of rs) q)
               (u.else t l)
         ]

@@ -6,22 +6,22 @@ use native.Mathlib.Decide.{dec_lt}
 use mathlib.Core.List.{List}
 use lib.ListN.{length, set, replicate, length-set, length-replicate}
 use lib.Seq.{get_or-set_same, get_or-set_other}
-use Rattle.model.specs.Numbers.{maxRequests}
+use Rattle.model.specs.Numbers.{max_requests}
 use Rattle.trace.specs.TraceFile.{item_at}
 use Rattle.links.specs.Chains.{Read}
 
 -- the items of the requests below t are read
 pub record Reading (trace items : List ℕ) (n t : ℕ) : Type 0 where
   pub upto : t ≤ n
-  pub long : length items ≡ maxRequests
+  pub long : length items ≡ max_requests
   pub read : Read trace items t
 
-pub read-starts : {trace : List ℕ} {n : ℕ} → Reading trace (replicate maxRequests 0) n 0
-read-starts = record { upto = omega arith; long = length-replicate {A = ℕ} maxRequests 0; read = record { on = λ t l. absurd (omega arith) } }
+pub read_starts : {trace : List ℕ} {n : ℕ} → Reading trace (replicate max_requests 0) n 0
+read_starts = record { upto = omega arith; long = length-replicate {A = ℕ} max_requests 0; read = record { on = λ t l. absurd (omega arith) } }
 
-pub read-steps : {trace items : List ℕ} {n t : ℕ} (i : ℕ) → n ≤ maxRequests → t < n → i ≡ item_at trace t → Reading trace items n t
+pub read_steps : {trace items : List ℕ} {n t : ℕ} (i : ℕ) → n ≤ max_requests → t < n → i ≡ item_at trace t → Reading trace items n t
     → Reading trace (set items t i) n (t + 1)
-read-steps {trace} {items} {n} {t} i few l e w =
+read_steps {trace} {items} {n} {t} i few l e w =
     let long = w.long in
     record {
       upto = omega arith;
@@ -34,5 +34,5 @@ read-steps {trace} {items} {n} {t} i few l e w =
       };
     }
 
-pub read-ends : {trace items : List ℕ} {n t : ℕ} → Reading trace items n t → n ≤ t → Read trace items n
-read-ends w l = record { on = λ s m. w.read.on s (omega arith) }
+pub read_ends : {trace items : List ℕ} {n t : ℕ} → Reading trace items n t → n ≤ t → Read trace items n
+read_ends w l = record { on = λ s m. w.read.on s (omega arith) }

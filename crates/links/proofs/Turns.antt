@@ -19,11 +19,11 @@ pub record Clearing (old prev : List ℕ) (n t : ℕ) : Type 0 where
   pub none : (s : ℕ) → s < t → get_or prev s 0 ≡ n
   pub kept : drop n prev ≡ drop n old
 
-pub clear-starts : {prev : List ℕ} {n : ℕ} → Clearing prev prev n 0
-clear-starts = record { upto = omega arith; long = refl; none = λ s h. absurd (omega arith); kept = refl }
+pub clear_starts : {prev : List ℕ} {n : ℕ} → Clearing prev prev n 0
+clear_starts = record { upto = omega arith; long = refl; none = λ s h. absurd (omega arith); kept = refl }
 
-pub clear-steps : {old prev : List ℕ} {n t : ℕ} → n ≤ length old → t < n → Clearing old prev n t → Clearing old (set prev t n) n (t + 1)
-clear-steps {old} {prev} {n} {t} few l w =
+pub clear_steps : {old prev : List ℕ} {n t : ℕ} → n ≤ length old → t < n → Clearing old prev n t → Clearing old (set prev t n) n (t + 1)
+clear_steps {old} {prev} {n} {t} few l w =
     let long = w.long in
     record {
       upto = omega arith;
@@ -43,8 +43,8 @@ pub record Turning (next old prev : List ℕ) (n t : ℕ) : Type 0 where
   pub kept : drop n prev ≡ drop n old
 
 module _ {next old : List ℕ} {n : ℕ} (single : Single next old n) where
-  pub turn-starts : Turning next old old n 0
-  turn-starts = record {
+  pub turn_starts : Turning next old old n 0
+  turn_starts = record {
     upto = omega arith;
     long = refl;
     undoes = record { back = λ s h m. absurd (omega arith); else = λ u h. inl (single.none u h) };
@@ -52,8 +52,8 @@ module _ {next old : List ℕ} {n : ℕ} (single : Single next old n) where
   }
 
   -- t has no next request
-  pub turn-passes : {prev : List ℕ} {t : ℕ} → t < n → n ≤ get_or next t 0 → Turning next old prev n t → Turning next old prev n (t + 1)
-  turn-passes {prev} {t} l o w = record {
+  pub turn_passes : {prev : List ℕ} {t : ℕ} → t < n → n ≤ get_or next t 0 → Turning next old prev n t → Turning next old prev n (t + 1)
+  turn_passes {prev} {t} l o w = record {
     upto = omega arith;
     long = w.long;
     undoes = record {
@@ -67,11 +67,11 @@ module _ {next old : List ℕ} {n : ℕ} (single : Single next old n) where
   }
 
   -- t's next request is u
-  pub turn-lays : {prev : List ℕ} {t : ℕ} (u : ℕ) → u ≡ get_or next t 0 → t < n → u < n → Turning next old prev n t
+  pub turn_lays : {prev : List ℕ} {t : ℕ} (u : ℕ) → u ≡ get_or next t 0 → t < n → u < n → Turning next old prev n t
       → Turning next old (set prev u t) n (t + 1)
-  turn-lays {prev} {t} u e l below w =
+  turn_lays {prev} {t} u e l below w =
       let long = w.long in
-      let room = single.all-prev in
+      let room = single.all_prev in
       let same : get_or (set prev u t) u 0 ≡ t = get_or-set_same prev u t 0 (omega arith) in
       record {
         upto = omega arith;
@@ -91,5 +91,5 @@ module _ {next old : List ℕ} {n : ℕ} (single : Single next old n) where
       }
 
 -- all are laid down
-pub turn-ends : {next old prev : List ℕ} {n t : ℕ} → Turning next old prev n t → n ≤ t → Undoes next prev n n
-turn-ends {next} {old} {prev} {n} {t} w l = let q : t ≡ n = omega (arith, w.upto) in rw q at w.undoes
+pub turn_ends : {next old prev : List ℕ} {n t : ℕ} → Turning next old prev n t → n ≤ t → Undoes next prev n n
+turn_ends {next} {old} {prev} {n} {t} w l = let q : t ≡ n = omega (arith, w.upto) in rw q at w.undoes

@@ -2,7 +2,7 @@
 -- The promise of `fill` cites none of it.
 -- Assumes nothing.
 use Rattle.std.specs.Prelude.{◌≡◌, ℕ, suc, ◌≤◌, ◌<◌, ◌%◌, List, ◌⊎◌, length, get_or, drop}
-use Rattle.model.specs.Numbers.{maxRequests}
+use Rattle.model.specs.Numbers.{max_requests}
 use Rattle.trace.specs.TraceFile.{item_at}
 
 -- m is the first of the n requests from t on whose key is v, or n if there is none
@@ -13,38 +13,38 @@ pub record First (key : ℕ → ℕ) (n v t m : ℕ) : Type 0 where
   pub none : (s : ℕ) → t ≤ s → s < m → key s ≡ v → ⊥
 
 -- the item of request t
-abbrev pub itemIn : (items : List ℕ) → (t : ℕ) → ℕ
-itemIn items t = get_or items t 0
+abbrev pub item_in : (items : List ℕ) → (t : ℕ) → ℕ
+item_in items t = get_or items t 0
 
 -- its bucket, of which there are n
-abbrev pub bucketIn : (items : List ℕ) → (n t : ℕ) → ℕ
-bucketIn items n t = get_or items t 0 % n
+abbrev pub bucket_in : (items : List ℕ) → (n t : ℕ) → ℕ
+bucket_in items n t = get_or items t 0 % n
 
 -- from request t on, each request's place in chain has the next of its bucket
 pub record Chained (items chain : List ℕ) (n t : ℕ) : Type 0 where
-  pub on : (s : ℕ) → t ≤ s → s < n → First (bucketIn items n) n (bucketIn items n s) (suc s) (get_or chain s 0)
+  pub on : (s : ℕ) → t ≤ s → s < n → First (bucket_in items n) n (bucket_in items n s) (suc s) (get_or chain s 0)
 
 -- from request t on, each request's place in next has the next of its item
 pub record Nexts (items next : List ℕ) (n t : ℕ) : Type 0 where
-  pub on : (s : ℕ) → t ≤ s → s < n → First (itemIn items) n (itemIn items s) (suc s) (get_or next s 0)
+  pub on : (s : ℕ) → t ≤ s → s < n → First (item_in items) n (item_in items s) (suc s) (get_or next s 0)
 
 -- each bucket's place in head has its first request from t on
 pub record Heads (items head : List ℕ) (n t : ℕ) : Type 0 where
-  pub on : (b : ℕ) → b < n → First (bucketIn items n) n b t (get_or head b 0)
+  pub on : (b : ℕ) → b < n → First (bucket_in items n) n b t (get_or head b 0)
 
 -- the lists have room for n requests
 pub record Room (items next chain : List ℕ) (n : ℕ) : Type 0 where
-  pub few : n ≤ maxRequests
-  pub all-items : n ≤ length items
-  pub all-next : n ≤ length next
-  pub all-chain : n ≤ length chain
+  pub few : n ≤ max_requests
+  pub all_items : n ≤ length items
+  pub all_next : n ≤ length next
+  pub all_chain : n ≤ length chain
 
 -- where the walk for the next request of t may start
 pub record Ready (items chain : List ℕ) (n t start : ℕ) : Type 0 where
-  pub all-items : n ≤ length items
-  pub all-chain : n ≤ length chain
+  pub all_items : n ≤ length items
+  pub all_chain : n ≤ length chain
   pub here : t < n
-  pub first : First (bucketIn items n) n (bucketIn items n t) (suc t) start
+  pub first : First (bucket_in items n) n (bucket_in items n t) (suc t) start
   pub chained : Chained items chain n (suc t)
 
 -- the next requests stand in next, and past n the two lists are kept
@@ -60,9 +60,9 @@ pub record Cleared (n : ℕ) (prev prev' : List ℕ) : Type 0 where
 
 -- no request is the next of two
 pub record Single (next prev : List ℕ) (n : ℕ) : Type 0 where
-  pub few : n ≤ maxRequests
-  pub all-next : n ≤ length next
-  pub all-prev : n ≤ length prev
+  pub few : n ≤ max_requests
+  pub all_next : n ≤ length next
+  pub all_prev : n ≤ length prev
   pub none : (s : ℕ) → s < n → get_or prev s 0 ≡ n
   pub one : (s t : ℕ) → s < n → t < n → get_or next s 0 ≡ get_or next t 0 → get_or next t 0 < n → s ≡ t
 

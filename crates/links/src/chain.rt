@@ -1,6 +1,6 @@
 // The next request of each request, found through chains of the requests whose items are equal modulo n.
 ghost use Rattle.std.specs.Prelude.{◌≡◌, suc, ◌≤◌, ◌<◌, length};
-ghost use Rattle.links.specs.Chains.{First, itemIn, bucketIn, Room, Ready, NextsLaid};
+ghost use Rattle.links.specs.Chains.{First, item_in, bucket_in, Room, Ready, NextsLaid};
 
 use model::Requests;
 
@@ -14,7 +14,7 @@ pub fn wide(x: u16) -> usize
 // The bucket of t's item.
 pub fn bucket(items: &[u16], n: usize, t: usize) -> usize
     requires { (t < n) × (n ≤ length items.now) }
-    ensures { (result ≡ bucketIn items.now n t) × (result < n) }
+    ensures { (result ≡ bucket_in items.now n t) × (result < n) }
 {
     wide(items[t]) % n
 }
@@ -22,7 +22,7 @@ pub fn bucket(items: &[u16], n: usize, t: usize) -> usize
 // The next request of t's item, by a walk along the chain from `start`.
 pub fn walk(items: &[u16], chain: &[u16], n: usize, t: usize, start: usize) -> usize
     requires { Ready items.now chain.now n t start }
-    ensures { First (itemIn items.now) n (itemIn items.now t) (suc t) result }
+    ensures { First (item_in items.now) n (item_in items.now t) (suc t) result }
 {
     let item = items[t];
     let mut j = start;

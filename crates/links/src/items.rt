@@ -1,13 +1,13 @@
 // The items of a trace's requests, read once.
 ghost use Rattle.std.specs.Prelude.{◌≤◌};
-ghost use Rattle.model.specs.Numbers.{maxRequests};
+ghost use Rattle.model.specs.Numbers.{max_requests};
 ghost use Rattle.links.specs.Chains.{Read};
 
 use model::Requests;
 
 // The items of the first n requests.
 pub fn read(trace: &[u8], n: usize) -> [u16; Requests::MAX]
-    requires { n ≤ maxRequests }
+    requires { n ≤ max_requests }
     ensures { Read trace.now result n }
 {
     let mut items = [0u16; Requests::MAX];

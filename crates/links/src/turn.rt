@@ -1,13 +1,13 @@
 // The previous requests, from the next ones.
 ghost use Rattle.std.specs.Prelude.{◌≤◌, length};
-ghost use Rattle.model.specs.Numbers.{maxRequests};
+ghost use Rattle.model.specs.Numbers.{max_requests};
 ghost use Rattle.links.specs.Chains.{Cleared, Single, Turned};
 
 use crate::chain::wide;
 
 // None in each of the first n places.
 pub fn clear(n: usize, prev: &mut [u16])
-    requires { (n ≤ maxRequests) × (n ≤ length prev.old) }
+    requires { (n ≤ max_requests) × (n ≤ length prev.old) }
     ensures { Cleared n prev.old prev.new }
 {
     let none = n as u16;

@@ -12,26 +12,26 @@ module _ (ru : Rules) (r : Request) where
   read_held e after = rw e
 
   -- a read of an item not held that is held after it pays its cost and the fill price
-  pub read-fill : r.write ≡ false → charge ru r false true ≡ r.cost + ru.fill
-  read-fill e = rw e (omega arith)
+  pub read_fill : r.write ≡ false → charge ru r false true ≡ r.cost + ru.fill
+  read_fill e = rw e (omega arith)
 
   -- a read of an item not held, nor after it, pays its cost
-  pub read-miss : r.write ≡ false → charge ru r false false ≡ r.cost
-  read-miss e = rw e (omega arith)
+  pub read_miss : r.write ≡ false → charge ru r false false ≡ r.cost
+  read_miss e = rw e (omega arith)
 
   -- a write of an item held pays its cost, even if the item is dropped then
-  pub write-held : r.write ≡ true → (after : Bool) → charge ru r true after ≡ r.cost
-  write-held e after = rw e (omega arith)
+  pub write_held : r.write ≡ true → (after : Bool) → charge ru r true after ≡ r.cost
+  write_held e after = rw e (omega arith)
 
   -- a write of an item not held pays nothing
-  pub write-not : r.write ≡ true → (after : Bool) → charge ru r false after ≡ 0
-  write-not e after = rw e
+  pub write_not : r.write ≡ true → (after : Bool) → charge ru r false after ≡ 0
+  write_not e after = rw e
 
   -- no charge is above a cost and a fill
-  pub charge-top : (before after : Bool) → charge ru r before after ≤ r.cost + ru.fill
-  charge-top true after =
-      split r.write (λ e. rw (write-held e after) (omega arith)) (λ e. rw (read_held e after) (omega arith))
-  charge-top false true =
-      split r.write (λ e. rw (write-not e true) (omega arith)) (λ e. rw (read-fill e) (omega arith))
-  charge-top false false =
-      split r.write (λ e. rw (write-not e false) (omega arith)) (λ e. rw (read-miss e) (omega arith))
+  pub charge_top : (before after : Bool) → charge ru r before after ≤ r.cost + ru.fill
+  charge_top true after =
+      split r.write (λ e. rw (write_held e after) (omega arith)) (λ e. rw (read_held e after) (omega arith))
+  charge_top false true =
+      split r.write (λ e. rw (write_not e true) (omega arith)) (λ e. rw (read_fill e) (omega arith))
+  charge_top false false =
+      split r.write (λ e. rw (write_not e false) (omega arith)) (λ e. rw (read_miss e) (omega arith))

@@ -93,23 +93,23 @@ charge ru r before after =
     cond (misses r before after) r.cost 0 + cond (fills r before after) ru.fill 0 + cond (strikes r before after) r.cost 0
 
 -- what the requests from gap t on come to, by what each one counts for
-abbrev pub sumFrom : (Request → Bool → Bool → ℕ) → (t : ℕ) → List Request → Contents → ℕ
-sumFrom f t [] S = 0
-sumFrom f t (r ∷ rs) S = f r (S t r.item) (S (suc t) r.item) + sumFrom f (suc t) rs S
+abbrev pub sum_from : (Request → Bool → Bool → ℕ) → (t : ℕ) → List Request → Contents → ℕ
+sum_from f t [] S = 0
+sum_from f t (r ∷ rs) S = f r (S t r.item) (S (suc t) r.item) + sum_from f (suc t) rs S
 
 -- the cost of contents: each request's charge
 unfoldable pub cost : Trace → Contents → ℕ
-cost tr S = sumFrom (charge tr.rules) 0 tr.reqs S
+cost tr S = sum_from (charge tr.rules) 0 tr.reqs S
 
 -- how many requests are of a kind: read misses, fills or write hits
 unfoldable pub count : (Request → Bool → Bool → Bool) → Trace → Contents → ℕ
-count is tr S = sumFrom (λ r before after. cond (is r before after) 1 0) 0 tr.reqs S
+count is tr S = sum_from (λ r before after. cond (is r before after) 1 0) 0 tr.reqs S
 
 -- ---- one item on its own
 
 -- what the request charges for item i: nothing if it is for another item
-abbrev pub chargeOf : Rules → (i : ℕ) → Request → (before after : Bool) → ℕ
-chargeOf ru i r before after = cond (eqb r.item i) (charge ru r before after) 0
+abbrev pub charge_of : Rules → (i : ℕ) → Request → (before after : Bool) → ℕ
+charge_of ru i r before after = cond (eqb r.item i) (charge ru r before after) 0
 
 -- the comings and goings of one item: whether it is held in each gap
 abbrev pub History : Type 0
@@ -121,18 +121,18 @@ ComesFrom ru i t [] h = Unit {0}
 ComesFrom ru i t (r ∷ rs) h = (h (suc t) ≡ true → may ru t r i (h t) ≡ true) × ComesFrom ru i (suc t) rs h
 
 -- its charges and the rents of the gaps in which it is held
-abbrev pub priceFrom : Rules → Rents → (i t : ℕ) → List Request → History → ℕ
-priceFrom ru rent i t [] h = 0
-priceFrom ru rent i t (r ∷ rs) h =
-    chargeOf ru i r (h t) (h (suc t)) + cond (h (suc t)) (rent (suc t)) 0 + priceFrom ru rent i (suc t) rs h
+abbrev pub price_from : Rules → Rents → (i t : ℕ) → List Request → History → ℕ
+price_from ru rent i t [] h = 0
+price_from ru rent i t (r ∷ rs) h =
+    charge_of ru i r (h t) (h (suc t)) + cond (h (suc t)) (rent (suc t)) 0 + price_from ru rent i (suc t) rs h
 
 -- the least price from gap t on, where `before` says whether the item is held in gap t:
 -- after the request it is not held or, where it may be, held
-abbrev pub leastFrom : Rules → Rents → (i t : ℕ) → List Request → (before : Bool) → ℕ
-leastFrom ru rent i t [] before = 0
-leastFrom ru rent i t (r ∷ rs) before =
-    let out = chargeOf ru i r before false + leastFrom ru rent i (suc t) rs false in
-    let kept = chargeOf ru i r before true + rent (suc t) + leastFrom ru rent i (suc t) rs true in
+abbrev pub least_from : Rules → Rents → (i t : ℕ) → List Request → (before : Bool) → ℕ
+least_from ru rent i t [] before = 0
+least_from ru rent i t (r ∷ rs) before =
+    let out = charge_of ru i r before false + least_from ru rent i (suc t) rs false in
+    let kept = charge_of ru i r before true + rent (suc t) + least_from ru rent i (suc t) rs true in
     cond (may ru t r i before) (min out kept) out
 
 -- ---- the floor
@@ -143,26 +143,26 @@ items [] = []
 items (r ∷ rs) = cond (elem r.item (items rs)) (items rs) (r.item ∷ items rs)
 
 -- a sum over a list of items
-abbrev pub sumOver : List ℕ → (ℕ → ℕ) → ℕ
-sumOver [] f = 0
-sumOver (i ∷ l) f = f i + sumOver l f
+abbrev pub sum_over : List ℕ → (ℕ → ℕ) → ℕ
+sum_over [] f = 0
+sum_over (i ∷ l) f = f i + sum_over l f
 
 -- the rents of the gaps that follow these requests
-abbrev pub rentsFrom : Rents → (t : ℕ) → List Request → ℕ
-rentsFrom rent t [] = 0
-rentsFrom rent t (r ∷ rs) = rent (suc t) + rentsFrom rent (suc t) rs
+abbrev pub rents_from : Rents → (t : ℕ) → List Request → ℕ
+rents_from rent t [] = 0
+rents_from rent t (r ∷ rs) = rent (suc t) + rents_from rent (suc t) rs
 
 -- the least prices of the items of the trace, added up
 unfoldable pub leasts : Trace → Rents → ℕ
-leasts tr rent = sumOver (items tr.reqs) (λ i. leastFrom tr.rules rent i 0 tr.reqs false)
+leasts tr rent = sum_over (items tr.reqs) (λ i. least_from tr.rules rent i 0 tr.reqs false)
 
 -- the sum of all rents
-unfoldable pub rentsAll : Trace → Rents → ℕ
-rentsAll tr rent = rentsFrom rent 0 tr.reqs
+unfoldable pub rents_all : Trace → Rents → ℕ
+rents_all tr rent = rents_from rent 0 tr.reqs
 
 -- the floor: the least prices, less w times the sum of all rents; it may be negative
 unfoldable pub floor : Trace → Rents → ℤ
-floor tr rent = sub_ℕ (leasts tr rent) (tr.rules.slots * rentsAll tr rent)
+floor tr rent = sub_ℕ (leasts tr rent) (tr.rules.slots * rents_all tr rent)
 
 -- ---- the least cost
 

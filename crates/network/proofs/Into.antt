@@ -5,29 +5,29 @@ use native.Mathlib.Omega.{arith}
 use mathlib.Core.Bool.{true, false}
 use Rattle.model.specs.Model.{Trace}
 use Rattle.model.specs.Plans.{Flags}
-use Rattle.model.specs.Links.{prevOf}
-use Rattle.model.proofs.Links.{prev-of-next}
-use Rattle.network.specs.Sound.{count, next, missed, struck, reads, after, fillsAt, dropsAt, crowd, node, Residual, idle, unidle, undrop, fill, unfill, drop, hold, unhold}
+use Rattle.model.specs.Links.{prev_of}
+use Rattle.model.proofs.Links.{prev_of_next}
+use Rattle.network.specs.Sound.{count, next, missed, struck, reads, after, fills_at, drops_at, crowd, node, Residual, idle, unidle, undrop, fill, unfill, drop, hold, unhold}
 
 module _ (tr : Trace) (k : ℕ) (x : Flags) (P Q : ℕ → ℕ) where
   -- a way goes from a node to a node
-  pub ways-inside : {v u len : ℕ} → Residual tr k x P Q v u len → (v ≤ count tr + count tr) × (u ≤ count tr + count tr)
-  ways-inside (idle g len l e) = (omega arith, omega arith)
-  ways-inside (unidle g l c) = (omega arith, omega arith)
-  ways-inside (undrop t l c) = (omega arith, omega arith)
-  ways-inside (fill t len l r c e) = (omega arith, omega arith)
-  ways-inside (unfill t l c) = (omega arith, omega arith)
-  ways-inside (drop t len l c e) = (omega arith, omega arith)
-  ways-inside (hold t len l n a e) = (omega arith, omega arith)
-  ways-inside (unhold t len l n a e) = (omega arith, omega arith)
+  pub ways_inside : {v u len : ℕ} → Residual tr k x P Q v u len → (v ≤ count tr + count tr) × (u ≤ count tr + count tr)
+  ways_inside (idle g len l e) = (omega arith, omega arith)
+  ways_inside (unidle g l c) = (omega arith, omega arith)
+  ways_inside (undrop t l c) = (omega arith, omega arith)
+  ways_inside (fill t len l r c e) = (omega arith, omega arith)
+  ways_inside (unfill t l c) = (omega arith, omega arith)
+  ways_inside (drop t len l c e) = (omega arith, omega arith)
+  ways_inside (hold t len l n a e) = (omega arith, omega arith)
+  ways_inside (unhold t len l n a e) = (omega arith, omega arith)
 
   module _ (B : (v len : ℕ) → Type 0) where
     -- into a point: from the point before, from the point after where a slot is free, or from its request
     pub into-point : (g : ℕ) → g ≤ count tr
         → ((h len : ℕ) → suc h ≡ g → P h ≡ P g + len → B h len)
         → (g < count tr → crowd tr x g < k → B (suc g) 0)
-        → (g < count tr → fillsAt tr x g ≡ true → B (node tr g) 0)
-        → ((len : ℕ) → g < count tr → fillsAt tr x g ≡ false → Q g ≡ P g + len → B (node tr g) len)
+        → (g < count tr → fills_at tr x g ≡ true → B (node tr g) 0)
+        → ((len : ℕ) → g < count tr → fills_at tr x g ≡ false → Q g ≡ P g + len → B (node tr g) len)
         → (v len : ℕ) → Residual tr k x P Q v g len → B v len
     into-point g l b₁ b₂ b₃ b₄ v len r = go g v len r refl
       where
@@ -43,9 +43,9 @@ module _ (tr : Trace) (k : ℕ) (x : Flags) (P Q : ℕ → ℕ) where
 
     -- into a request: from its point, from its item's previous request, or from its next where it is held up to that
     pub into-request : (t : ℕ) → t < count tr
-        → (dropsAt tr x t ≡ true → B t 0)
-        → ((len : ℕ) → reads tr t ≡ true → dropsAt tr x t ≡ false → P t + tr.rules.fill ≡ Q t + len → B t len)
-        → ((s len : ℕ) → prevOf tr.reqs t ≡ s → s < count tr → after x s ≡ false
+        → (drops_at tr x t ≡ true → B t 0)
+        → ((len : ℕ) → reads tr t ≡ true → drops_at tr x t ≡ false → P t + tr.rules.fill ≡ Q t + len → B t len)
+        → ((s len : ℕ) → prev_of tr.reqs t ≡ s → s < count tr → after x s ≡ false
         → Q s + struck tr t ≡ Q t + missed tr t + len → B (node tr s) len)
         → ((len : ℕ) → next tr t < count tr → after x t ≡ true
         → Q (next tr t) + missed tr (next tr t) ≡ Q t + struck tr (next tr t) + len → B (node tr (next tr t)) len)
@@ -61,6 +61,6 @@ module _ (tr : Trace) (k : ℕ) (x : Flags) (P Q : ℕ → ℕ) where
         go u v len (drop s m i c e) q = absurd (omega arith)
         go u v len (hold s m i n a e) q =
             let z : next tr s ≡ t = omega arith in
-            b₃ s m (ap (prevOf tr.reqs) (sym z) ∙ prev-of-next tr.reqs s n) i a (rw z at e)
+            b₃ s m (ap (prev_of tr.reqs) (sym z) ∙ prev_of_next tr.reqs s n) i a (rw z at e)
         go u v len (unhold s m i n a e) q =
             let z : s ≡ t = omega arith in rw z (b₄ m (rw z at n) (rw z at a) (rw z at e))

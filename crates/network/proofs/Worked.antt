@@ -9,10 +9,10 @@ use lib.IntN.{pos}
 use lib.Dec.{lit≤}
 use Rattle.model.specs.Model.{Trace, Rents, cost, floor}
 use Rattle.model.specs.Plans.{Flags, contents, SoundFlags}
-use Rattle.network.specs.Sound.{noFlags, Start, Sound, Residual, idle, unidle, undrop, fill, unfill, drop, hold, unhold, raisedPoints, raisedRequests, ahead, reads}
+use Rattle.network.specs.Sound.{no_flags, Start, Sound, Residual, idle, unidle, undrop, fill, unfill, drop, hold, unhold, raised_points, raised_requests, ahead, reads}
 use Rattle.network.specs.Ways.{UnderWay, moved}
-use Rattle.network.proofs.Worths.{start-sound, more-slots, raise}
-use Rattle.network.proofs.Solved.{sound-solved}
+use Rattle.network.proofs.Worths.{start_sound, more_slots, raise}
+use Rattle.network.proofs.Solved.{sound_solved}
 use Rattle.network.proofs.Walk.{walk_start, walk_step, walk_end}
 
 -- a read, a write and a read of one item
@@ -47,8 +47,8 @@ started = record { last = refl; request = request; point = point }
     point (suc (suc zero)) l = refl
     point (suc (suc (suc t))) l = absurd (omega arith)
 
-none-sound : Sound tr 0 noFlags P Q
-none-sound = start-sound tr P Q started
+none_sound : Sound tr 0 no_flags P Q
+none_sound = start_sound tr P Q started
 
 -- ---- the walk from point 0 by the three requests and point 2 to point 3
 
@@ -62,31 +62,31 @@ rank (suc (suc (suc (suc (suc zero))))) = 3
 rank (suc (suc (suc (suc (suc (suc v)))))) = 2
 
 abbrev On : ℕ → Flags → Type 0
-On v x = UnderWay tr 0 noFlags P Q rank v x
+On v x = UnderWay tr 0 no_flags P Q rank v x
 
 abbrev x₁ : Flags
-x₁ = moved tr 4 5 noFlags
+x₁ = moved tr 4 5 no_flags
 
 abbrev x₂ : Flags
 x₂ = moved tr 5 6 x₁
 
-at-4 : On 4 noFlags
-at-4 = walk_step tr 0 noFlags P Q rank 0 4 noFlags (walk_start tr 0 noFlags P Q none-sound rank) (fill 0 0 (lit≤ tt) refl refl refl) (lit≤ tt)
+at_4 : On 4 no_flags
+at_4 = walk_step tr 0 no_flags P Q rank 0 4 no_flags (walk_start tr 0 no_flags P Q none_sound rank) (fill 0 0 (lit≤ tt) refl refl refl) (lit≤ tt)
 
 at_5 : On 5 x₁
-at_5 = walk_step tr 0 noFlags P Q rank 4 5 noFlags at-4 (hold 0 0 (lit≤ tt) (lit≤ tt) refl refl) (lit≤ tt)
+at_5 = walk_step tr 0 no_flags P Q rank 4 5 no_flags at_4 (hold 0 0 (lit≤ tt) (lit≤ tt) refl refl) (lit≤ tt)
 
-at-6 : On 6 x₂
-at-6 = walk_step tr 0 noFlags P Q rank 5 6 x₁ at_5 (hold 1 0 (lit≤ tt) (lit≤ tt) refl refl) (lit≤ tt)
+at_6 : On 6 x₂
+at_6 = walk_step tr 0 no_flags P Q rank 5 6 x₁ at_5 (hold 1 0 (lit≤ tt) (lit≤ tt) refl refl) (lit≤ tt)
 
-at-2 : On 2 x₂
-at-2 = walk_step tr 0 noFlags P Q rank 6 2 x₂ at-6 (drop 2 0 (lit≤ tt) refl refl) (lit≤ tt)
+at_2 : On 2 x₂
+at_2 = walk_step tr 0 no_flags P Q rank 6 2 x₂ at_6 (drop 2 0 (lit≤ tt) refl refl) (lit≤ tt)
 
-at-3 : On 3 x₂
-at-3 = walk_step tr 0 noFlags P Q rank 2 3 x₂ at-2 (idle 2 0 (lit≤ tt) refl) (lit≤ tt)
+at_3 : On 3 x₂
+at_3 = walk_step tr 0 no_flags P Q rank 2 3 x₂ at_2 (idle 2 0 (lit≤ tt) refl) (lit≤ tt)
 
-one-sound : Sound tr 1 x₂ P Q
-one-sound = walk_end tr 0 noFlags P Q rank x₂ at-3
+one_sound : Sound tr 1 x₂ P Q
+one_sound = walk_end tr 0 no_flags P Q rank x₂ at_3
 
 -- ---- the plan
 
@@ -95,11 +95,11 @@ rent zero = 0
 rent (suc g) = P g - P (suc g)
 
 planned : SoundFlags tr x₂ × (floor tr rent ≡ pos (cost tr (contents tr.reqs x₂)))
-planned = sound-solved tr x₂ P Q one-sound rent (λ g l. refl)
+planned = sound_solved tr x₂ P Q one_sound rent (λ g l. refl)
 
-costs-19 : cost tr (contents tr.reqs x₂) ≡ 19
+costs_19 : cost tr (contents tr.reqs x₂) ≡ 19
 unfolding cost
-costs-19 = refl
+costs_19 = refl
 
 -- ---- one more search: the first point is 1 away from the last, and so are the first two requests
 
@@ -147,6 +147,6 @@ searched v u len (unhold (suc (suc zero)) m l n a e) = absurd (omega (arith, n))
 searched v u len (unhold (suc (suc (suc g))) m l n a e) = absurd (omega arith)
 
 -- the plan of one slot is sound with any number of slots
-many-sound : (k : ℕ) → 1 ≤ k → Sound tr k x₂ (raisedPoints P dist 1) (raisedRequests tr Q dist 1)
-many-sound k l =
-    more-slots tr 1 k x₂ (raisedPoints P dist 1) (raisedRequests tr Q dist 1) (raise tr 1 x₂ P Q dist 1 one-sound searched) refl l
+many_sound : (k : ℕ) → 1 ≤ k → Sound tr k x₂ (raised_points P dist 1) (raised_requests tr Q dist 1)
+many_sound k l =
+    more_slots tr 1 k x₂ (raised_points P dist 1) (raised_requests tr Q dist 1) (raise tr 1 x₂ P Q dist 1 one_sound searched) refl l

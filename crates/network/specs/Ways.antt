@@ -3,8 +3,8 @@
 use Rattle.std.specs.Prelude.{◌≡◌, ℕ, zero, suc, ◌+◌, ◌-◌, ◌≤◌, ◌<◌, Bool, true, false, cond, ◌&&◌, eqb, ltb}
 use Rattle.model.specs.Model.{Trace}
 use Rattle.model.specs.Plans.{Flags}
-use Rattle.model.specs.Links.{prevOf}
-use Rattle.network.specs.Sound.{count, next, missed, struck, reads, after, fillsAt, dropsAt, crowd, node}
+use Rattle.model.specs.Links.{prev_of}
+use Rattle.network.specs.Sound.{count, next, missed, struck, reads, after, fills_at, drops_at, crowd, node}
 
 -- the steps that a slot may take: idle from point g to the next; from point t to request t by a fill, and back by a drop;
 -- from request t to the next of its item, holding it
@@ -69,14 +69,14 @@ inflow m f (suc g) = f (idling g)
 -- m slots have come from the first point, and all go on to the last but one, which stands at node v
 pub record Balanced (tr : Trace) (m v : ℕ) (f : Flow) : Type 0 where
   pub requests : (t : ℕ) → t < count tr
-      → f (holding (prevOf tr.reqs t)) + f (filling t) ≡ f (holding t) + f (dropping t) + on (node tr t) v
+      → f (holding (prev_of tr.reqs t)) + f (filling t) ≡ f (holding t) + f (dropping t) + on (node tr t) v
   pub points : (g : ℕ) → g < count tr → inflow m f g + f (dropping g) ≡ f (idling g) + f (filling g) + on g v
 
 -- the flow of k slots that flags name
 abbrev pub flow_of : Trace → (k : ℕ) → Flags → Flow
 flow_of tr k x (idling g) = k - crowd tr x g
-flow_of tr k x (filling t) = cond (fillsAt tr x t) 1 0
-flow_of tr k x (dropping t) = cond (dropsAt tr x t) 1 0
+flow_of tr k x (filling t) = cond (fills_at tr x t) 1 0
+flow_of tr k x (dropping t) = cond (drops_at tr x t) 1 0
 flow_of tr k x (holding t) = cond (after x t) 1 0
 
 -- one slot more than the k of the flags x₀ has come as far as node v, and the flags are x now; what lies below v in rank is as it was
@@ -84,20 +84,20 @@ pub record UnderWay (tr : Trace) (k : ℕ) (x₀ : Flags) (P Q rank : ℕ → �
   pub flow : Flow
   pub flags : (t : ℕ) → flow (holding t) ≡ cond (after x t) 1 0
   pub linked : (t : ℕ) → after x t ≡ true → next tr t < count tr
-  pub fill-read : (t : ℕ) → t < count tr → 0 < flow (filling t) → reads tr t ≡ true
+  pub fill_read : (t : ℕ) → t < count tr → 0 < flow (filling t) → reads tr t ≡ true
   pub feasible : (a : Arc) → Is tr a → (Room flow a → to tr P Q a ≤ from tr P Q a) × (0 < flow a → from tr P Q a ≤ to tr P Q a)
   pub balanced : Balanced tr (suc k) v flow
   pub fresh : (a : Arc) → rank (src tr a) ≤ rank v → rank (dst tr a) ≤ rank v → flow a ≡ flow_of tr k x₀ a
 
 -- the flags with request t's flag set to b
-abbrev pub setFlag : Flags → (t : ℕ) → (b : Bool) → Flags
-setFlag x t b zero = x zero
-setFlag x t b (suc s) = cond (eqb s t) b (x (suc s))
+abbrev pub set_flag : Flags → (t : ℕ) → (b : Bool) → Flags
+set_flag x t b zero = x zero
+set_flag x t b (suc s) = cond (eqb s t) b (x (suc s))
 
 -- the flags after a hop from v to u: from a request to a later one its flag is set, from a request to an earlier one that one's flag
 -- is cleared, and no other hop changes any
 abbrev pub moved : Trace → (v u : ℕ) → Flags → Flags
 moved tr v u x =
     cond (ltb (count tr) v && ltb (count tr) u)
-    (cond (ltb v u) (setFlag x (v - (count tr + 1)) true) (setFlag x (u - (count tr + 1)) false))
+    (cond (ltb v u) (set_flag x (v - (count tr + 1)) true) (set_flag x (u - (count tr + 1)) false))
     x

@@ -17,29 +17,29 @@ split true f g = f refl
 split false f g = g refl
 
 -- the bytes of a page
-abbrev pub bytesIn : Page → List ℕ
-bytesIn (filled at l) = l
+abbrev pub bytes_in : Page → List ℕ
+bytes_in (filled at l) = l
 
 -- one run after another is both as one
-pub write-join : (p : Page) (xs ys : List ℕ) → write (write p xs) ys ≡ write p (xs ++ ys)
-write-join p [] ys = refl
-write-join p (x ∷ xs) ys = write-join (put p x) xs ys
+pub write_join : (p : Page) (xs ys : List ℕ) → write (write p xs) ys ≡ write p (xs ++ ys)
+write_join p [] ys = refl
+write_join p (x ∷ xs) ys = write_join (put p x) xs ys
 
 -- no byte makes a page longer or shorter
-length-put : (p : Page) (b : ℕ) → length (bytesIn (put p b)) ≡ length (bytesIn p)
+length-put : (p : Page) (b : ℕ) → length (bytes_in (put p b)) ≡ length (bytes_in p)
 length-put (filled at l) b = length-set l at b
 
-pub length-write : (p : Page) (bs : List ℕ) → length (bytesIn (write p bs)) ≡ length (bytesIn p)
+pub length-write : (p : Page) (bs : List ℕ) → length (bytes_in (write p bs)) ≡ length (bytes_in p)
 length-write p [] = refl
 length-write p (b ∷ bs) = length-write (put p b) bs ∙ length-put p b
 
 -- pages that come to the same are equally long
-pub same-long : (p q : Page) (xs ys : List ℕ) → write p xs ≡ write q ys → length (bytesIn p) ≡ length (bytesIn q)
-same-long p q xs ys e = sym (length-write p xs) ∙ (ap (λ o. length (bytesIn o)) e ∙ length-write q ys)
+pub same_long : (p q : Page) (xs ys : List ℕ) → write p xs ≡ write q ys → length (bytes_in p) ≡ length (bytes_in q)
+same_long p q xs ys e = sym (length-write p xs) ∙ (ap (λ o. length (bytes_in o)) e ∙ length-write q ys)
 
 -- two answers that a page's equation permits are the same
-pub page-once : {p : Page} {r s : ℕ} {new new' : List ℕ} → filled r new ≡ p → filled s new' ≡ p → (r ≡ s) × (new ≡ new')
-page-once {r = r} {s} {new} {new'} a b =
+pub page_once : {p : Page} {r s : ℕ} {new new' : List ℕ} → filled r new ≡ p → filled s new' ≡ p → (r ≡ s) × (new ≡ new')
+page_once {r = r} {s} {new} {new'} a b =
     let e : filled r new ≡ filled s new' = a ∙ sym b in
     let m : r ≡ s = cc in
     let n : new ≡ new' = cc in
@@ -56,65 +56,65 @@ byte_more next next' l l' s i p h e w =
     rw n (ap (λ q. write q (drop (suc i) s)) e ∙ w')
 
 -- the same byte once more
-pub repeat-more : (next next' : ℕ) (l l' : List ℕ) (left b : ℕ) (p : Page) → 0 < left → filled next' l' ≡ put (filled next l) b
+pub repeat_more : (next next' : ℕ) (l l' : List ℕ) (left b : ℕ) (p : Page) → 0 < left → filled next' l' ≡ put (filled next l) b
     → write (filled next l) (replicate left b) ≡ p → write (filled next' l') (replicate (left - 1) b) ≡ p
-repeat-more next next' l l' zero b p h e w = absurd (omega arith)
-repeat-more next next' l l' (suc left) b p h e w =
+repeat_more next next' l l' zero b p h e w = absurd (omega arith)
+repeat_more next next' l l' (suc left) b p h e w =
     let n : suc left - 1 ≡ left = omega arith in
     rw n (ap (λ q. write q (replicate left b)) e ∙ w)
 
-pub repeat-done : (next : ℕ) (l : List ℕ) (left b : ℕ) (p : Page) → left ≤ 0 → write (filled next l) (replicate left b) ≡ p → filled next l ≡ p
-repeat-done next l zero b p h w = w
-repeat-done next l (suc left) b p h w = absurd (omega arith)
+pub repeat_done : (next : ℕ) (l : List ℕ) (left b : ℕ) (p : Page) → left ≤ 0 → write (filled next l) (replicate left b) ≡ p → filled next l ≡ p
+repeat_done next l zero b p h w = w
+repeat_done next l (suc left) b p h w = absurd (omega arith)
 
 -- ---- a page that has room
 
 -- the bytes stand one after the other
-write-room : (at : ℕ) (l bs : List ℕ) → at + length bs ≤ length l → write (filled at l) bs ≡ filled (at + length bs) (sets l at bs)
-write-room at l [] h = let z : at + 0 ≡ at = omega arith in rw z
-write-room at l (b ∷ bs) h =
+write_room : (at : ℕ) (l bs : List ℕ) → at + length bs ≤ length l → write (filled at l) bs ≡ filled (at + length bs) (sets l at bs)
+write_room at l [] h = let z : at + 0 ≡ at = omega arith in rw z
+write_room at l (b ∷ bs) h =
     let z : at + suc (length bs) ≡ suc at + length bs = omega arith in
     let r : suc at + length bs ≤ length (set l at b) = omega (arith, length-set l at b) in
-    rw (lt-ltb at (length l) (omega arith), z) (write-room (suc at) (set l at b) bs r)
+    rw (lt-ltb at (length l) (omega arith), z) (write_room (suc at) (set l at b) bs r)
 
 -- from the start they are what the page begins with
-write-start : (l bs : List ℕ) → length bs ≤ length l → write (filled 0 l) bs ≡ filled (length bs) (bs ++ drop (length bs) l)
-write-start l bs h =
+write_start : (l bs : List ℕ) → length bs ≤ length l → write (filled 0 l) bs ≡ filled (length bs) (bs ++ drop (length bs) l)
+write_start l bs h =
     let z : 0 + length bs ≡ length bs = omega arith in
     let e : sets l 0 bs ≡ bs ++ drop (0 + length bs) l = sets-eq bs l 0 (omega arith) in
-    write-room 0 l bs (omega arith) ∙ (rw (e, z))
+    write_room 0 l bs (omega arith) ∙ (rw (e, z))
 
 pub lies : (bs old : List ℕ) (r : ℕ) (new : List ℕ) → length bs ≤ length old → filled r new ≡ write (filled 0 old) bs → Lies bs old r new
 lies bs old r new h e =
-    let q : filled r new ≡ filled (length bs) (bs ++ drop (length bs) old) = e ∙ write-start old bs h in
+    let q : filled r new ≡ filled (length bs) (bs ++ drop (length bs) old) = e ∙ write_start old bs h in
     record { size = cc; held = cc }
 
 -- the first r bytes are those that were laid
-pub lies-first : {bs old : List ℕ} {r : ℕ} {new : List ℕ} → Lies bs old r new → take r new ≡ bs
-lies-first {bs} {old} {r} l = rw l.held (take_at bs (drop (length bs) old) r (sym l.size))
+pub lies_first : {bs old : List ℕ} {r : ℕ} {new : List ℕ} → Lies bs old r new → take r new ≡ bs
+lies_first {bs} {old} {r} l = rw l.held (take_at bs (drop (length bs) old) r (sym l.size))
 
 -- nothing lies on a page that is left as it is
-pub lies-none : (old : List ℕ) → Lies [] old 0 old
-lies-none old = record { size = refl; held = refl }
+pub lies_none : (old : List ℕ) → Lies [] old 0 old
+lies_none old = record { size = refl; held = refl }
 
 -- what lies there is what it is shown to be
-pub lies-as : {bs cs old : List ℕ} {r : ℕ} {new : List ℕ} → bs ≡ cs → Lies bs old r new → Lies cs old r new
-lies-as e l = rw e at l
+pub lies_as : {bs cs old : List ℕ} {r : ℕ} {new : List ℕ} → bs ≡ cs → Lies bs old r new → Lies cs old r new
+lies_as e l = rw e at l
 
 -- two answers that may be given are the same
-pub lies-once : {bs old : List ℕ} {r s : ℕ} {new new' : List ℕ} → Lies bs old r new → Lies bs old s new' → (r ≡ s) × (new ≡ new')
-lies-once a b = (a.size ∙ sym b.size, a.held ∙ sym b.held)
+pub lies_once : {bs old : List ℕ} {r s : ℕ} {new new' : List ℕ} → Lies bs old r new → Lies bs old s new' → (r ≡ s) × (new ≡ new')
+lies_once a b = (a.size ∙ sym b.size, a.held ∙ sym b.held)
 
 -- ---- a page that may have no room
 
 -- a full page stays as it is
-write-full : (at : ℕ) (l bs : List ℕ) → length l ≤ at → write (filled at l) bs ≡ filled at l
-write-full at l [] h = refl
-write-full at l (b ∷ bs) h = rw (le-ltb at (length l) h, set_out l at b h) (write-full at l bs h)
+write_full : (at : ℕ) (l bs : List ℕ) → length l ≤ at → write (filled at l) bs ≡ filled at l
+write_full at l [] h = refl
+write_full at l (b ∷ bs) h = rw (le-ltb at (length l) h, set_out l at b h) (write_full at l bs h)
 
 -- what finds no room is left out
-write-cut : (l bs : List ℕ) → write (filled 0 l) bs ≡ filled (min (length bs) (length l)) (take (length l) bs ++ drop (length bs) l)
-write-cut l bs =
+write_cut : (l bs : List ℕ) → write (filled 0 l) bs ≡ filled (min (length bs) (length l)) (take (length l) bs ++ drop (length bs) l)
+write_cut l bs =
     split (ltb (length l) (length bs))
     (λ e.
     let lt : length l < length bs = ltb-true (length l) (length bs) e in
@@ -124,31 +124,31 @@ write-cut l bs =
     = let h : length l ≤ length (take (length l) bs) = omega arith in drop_of_length-le l h in
     let none' : drop (length bs) l ≡ [] = let h : length l ≤ length bs = omega arith in drop_of_length-le l h in
     let front : write (filled 0 l) (take (length l) bs) ≡ filled (length l) (take (length l) bs ++ [])
-    = write-start l (take (length l) bs) (omega arith) ∙ rw (none, n) in
+    = write_start l (take (length l) bs) (omega arith) ∙ rw (none, n) in
     let long : length (take (length l) bs ++ []) ≡ length l = length-append (take (length l) bs) [] ∙ omega arith in
     ap (write (filled 0 l)) (sym (take-append-drop (length l) bs))
-    ∙ (sym (write-join (filled 0 l) (take (length l) bs) (drop (length l) bs))
+    ∙ (sym (write_join (filled 0 l) (take (length l) bs) (drop (length l) bs))
     ∙ (ap (λ p. write p (drop (length l) bs)) front
-    ∙ (write-full (length l) (take (length l) bs ++ []) (drop (length l) bs) (omega arith)
+    ∙ (write_full (length l) (take (length l) bs ++ []) (drop (length l) bs) (omega arith)
     ∙ rw (m, none')))))
     (λ e.
     let le : length bs ≤ length l = ltb-false (length l) (length bs) e in
     let m : min (length bs) (length l) ≡ length bs = min-eq_left le in
-    rw (m, take_all (length l) bs le) (write-start l bs le))
+    rw (m, take_all (length l) bs le) (write_start l bs le))
 
 pub cut : (bs old : List ℕ) (r : ℕ) (new : List ℕ) → filled r new ≡ write (filled 0 old) bs → Cut bs old r new
 cut bs old r new e =
-    let q : filled r new ≡ filled (min (length bs) (length old)) (take (length old) bs ++ drop (length bs) old) = e ∙ write-cut old bs in
+    let q : filled r new ≡ filled (min (length bs) (length old)) (take (length old) bs ++ drop (length bs) old) = e ∙ write_cut old bs in
     record { size = cc; held = cc }
 
 -- where there is room for all, nothing is left out
-pub cut-lies : {bs old : List ℕ} {r : ℕ} {new : List ℕ} → length bs ≤ length old → Cut bs old r new → Lies bs old r new
-cut-lies {bs} {old} h c =
+pub cut_lies : {bs old : List ℕ} {r : ℕ} {new : List ℕ} → length bs ≤ length old → Cut bs old r new → Lies bs old r new
+cut_lies {bs} {old} h c =
     record {
       size = c.size ∙ min-eq_left h;
       held = c.held ∙ ap (λ l. l ++ drop (length bs) old) (take_all (length old) bs h);
     }
 
 -- two answers that may be given are the same
-pub cut-once : {bs old : List ℕ} {r s : ℕ} {new new' : List ℕ} → Cut bs old r new → Cut bs old s new' → (r ≡ s) × (new ≡ new')
-cut-once a b = (a.size ∙ sym b.size, a.held ∙ sym b.held)
+pub cut_once : {bs old : List ℕ} {r s : ℕ} {new new' : List ℕ} → Cut bs old r new → Cut bs old s new' → (r ≡ s) × (new ≡ new')
+cut_once a b = (a.size ∙ sym b.size, a.held ∙ sym b.held)

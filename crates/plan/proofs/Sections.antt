@@ -4,12 +4,12 @@ use Prim.Native.Nat.{ℕ}
 use native.Mathlib.Omega.{arith}
 use mathlib.Core.List.{List}
 use Rattle.model.specs.Refusals.{Tried, passes, refusal, fine, refused, next, answer}
-use Rattle.model.proofs.Refusals.{next-passes}
-use Rattle.trace.specs.TraceFile.{requestsAt, traceTried}
-use Rattle.plan.specs.PlanFile.{sectionTried, planTried}
-use Rattle.plan.proofs.Sound.{SoundPlan, sound-plan}
+use Rattle.model.proofs.Refusals.{next_passes}
+use Rattle.trace.specs.TraceFile.{requests_at, trace_tried}
+use Rattle.plan.specs.PlanFile.{section_tried, plan_tried}
+use Rattle.plan.proofs.Sound.{SoundPlan, sound_plan}
 
 -- a plan with none of 1 to 12
-pub section-sound : (tr pl : List ℕ) → sectionTried tr pl ≡ passes → SoundPlan (requestsAt tr) pl
-unfolding sectionTried
-section-sound tr pl h = sound-plan (requestsAt tr) pl (next-passes (traceTried tr) (planTried (requestsAt tr) pl) h).1
+pub section_sound : (tr pl : List ℕ) → section_tried tr pl ≡ passes → SoundPlan (requests_at tr) pl
+unfolding section_tried
+section_sound tr pl h = sound_plan (requests_at tr) pl (next_passes (trace_tried tr) (plan_tried (requests_at tr) pl) h).1

@@ -7,13 +7,13 @@ use mathlib.Core.List.{List, [], ◌∷◌}
 use lib.ListN.{length, get_or}
 use lib.Dec.{eqb, ltb}
 use borrow.Author.Tests.{eqb-true, eq-eqb, ltb-false, le-ltb, not-false}
-use Rattle.model.proofs.Refusals.{row-passes, both_true}
-use Rattle.fields.specs.Bytes.{num_at, standAt}
-use Rattle.model.specs.Numbers.{maxRent}
+use Rattle.model.proofs.Refusals.{row_passes, both_true}
+use Rattle.fields.specs.Bytes.{num_at, stand_at}
+use Rattle.model.specs.Numbers.{max_rent}
 use Rattle.model.specs.Refusals.{Tried, passes, refusal, row, said}
 use Rattle.model.specs.declared.Outcome.{Outcome}
 use Rattle.model.specs.declared.Outcome.TheVariants.{Sound, Refused}
-use Rattle.plan.specs.PlanFile.{shape_of, length_of, markedPlan, planTried, rentsTried}
+use Rattle.plan.specs.PlanFile.{shape_of, length_of, marked_plan, plan_tried, rents_tried}
 
 -- ---- rows 9 to 12
 
@@ -27,16 +27,16 @@ pub record SoundPlan (n : ℕ) (pl : List ℕ) : Type 0 where
   pub requests : num_at 2 6 pl ≡ n
   pub long : length pl ≡ 16 + 5 * n
 
-pub sound-plan : (n : ℕ) (pl : List ℕ) → planTried n pl ≡ passes → SoundPlan n pl
-unfolding planTried
-sound-plan n pl h =
-    let nine = row-passes (ltb (length pl) 16) 9 0 _ h in
-    let ten = row-passes (not (markedPlan pl)) 10 0 _ nine.1 in
-    let eleven = row-passes (not (eqb (num_at 2 6 pl) n)) 11 0 _ ten.1 in
-    let twelve = row-passes (not (eqb (length pl) (length_of (shape_of n)))) 12 0 passes eleven.1 in
-    let mark = both_true (standAt (67 ∷ 80 ∷ 76 ∷ []) 0 pl) _ (not-false (markedPlan pl) ten.0) in
-    let a = both_true (eqb (get_or pl 0 0) 67) (standAt (80 ∷ 76 ∷ []) 1 pl) mark.0 in
-    let b = both_true (eqb (get_or pl 1 0) 80) (standAt (76 ∷ []) 2 pl) a.1 in
+pub sound_plan : (n : ℕ) (pl : List ℕ) → plan_tried n pl ≡ passes → SoundPlan n pl
+unfolding plan_tried
+sound_plan n pl h =
+    let nine = row_passes (ltb (length pl) 16) 9 0 _ h in
+    let ten = row_passes (not (marked_plan pl)) 10 0 _ nine.1 in
+    let eleven = row_passes (not (eqb (num_at 2 6 pl) n)) 11 0 _ ten.1 in
+    let twelve = row_passes (not (eqb (length pl) (length_of (shape_of n)))) 12 0 passes eleven.1 in
+    let mark = both_true (stand_at (67 ∷ 80 ∷ 76 ∷ []) 0 pl) _ (not-false (marked_plan pl) ten.0) in
+    let a = both_true (eqb (get_or pl 0 0) 67) (stand_at (80 ∷ 76 ∷ []) 1 pl) mark.0 in
+    let b = both_true (eqb (get_or pl 1 0) 80) (stand_at (76 ∷ []) 2 pl) a.1 in
     let c = both_true (eqb (get_or pl 2 0) 76) true b.1 in
     let d = both_true (eqb (num_at 2 3 pl) 1) (eqb (get_or pl 5 0) 0) mark.1 in
     record {
@@ -49,33 +49,33 @@ sound-plan n pl h =
       long = omega (arith, eqb-true (length pl) (16 + n + 4 * n) (not-false (eqb (length pl) (16 + n + 4 * n)) twelve.0));
     }
 
-pub plan-sound : (n : ℕ) (pl : List ℕ) → SoundPlan n pl → planTried n pl ≡ passes
-unfolding planTried
-plan-sound n pl s =
+pub plan_sound : (n : ℕ) (pl : List ℕ) → SoundPlan n pl → plan_tried n pl ≡ passes
+unfolding plan_tried
+plan_sound n pl s =
     let long : length pl ≡ 16 + n + 4 * n = omega (arith, s.long) in
     rw (le-ltb (length pl) 16 (omega arith), eq-eqb _ _ s.first, eq-eqb _ _ s.second, eq-eqb _ _ s.third, eq-eqb _ _ s.version, eq-eqb _ _ s.nought, eq-eqb _ _ s.requests, eq-eqb _ _ long)
 
 -- ---- row 17
 
 -- rents without row 17 are each at most the largest rent
-pub rents-sound : (t : ℕ) (l : List ℕ) → rentsTried t l ≡ passes → (i : ℕ) → get_or l i 0 ≤ maxRent
-rents-sound t [] h i = omega arith
-rents-sound t (p ∷ ps) h zero = ltb-false maxRent p (row-passes (ltb maxRent p) 17 (suc t) (rentsTried (suc t) ps) h).0
-rents-sound t (p ∷ ps) h (suc i) = rents-sound (suc t) ps (row-passes (ltb maxRent p) 17 (suc t) (rentsTried (suc t) ps) h).1 i
+pub rents_sound : (t : ℕ) (l : List ℕ) → rents_tried t l ≡ passes → (i : ℕ) → get_or l i 0 ≤ max_rent
+rents_sound t [] h i = omega arith
+rents_sound t (p ∷ ps) h zero = ltb-false max_rent p (row_passes (ltb max_rent p) 17 (suc t) (rents_tried (suc t) ps) h).0
+rents_sound t (p ∷ ps) h (suc i) = rents_sound (suc t) ps (row_passes (ltb max_rent p) 17 (suc t) (rents_tried (suc t) ps) h).1 i
 
 -- and the other way round
-pub sound-rents : (t : ℕ) (l : List ℕ) → ((i : ℕ) → get_or l i 0 ≤ maxRent) → rentsTried t l ≡ passes
-sound-rents t [] h = refl
-sound-rents t (p ∷ ps) h = rw (le-ltb maxRent p (h 0)) (sound-rents (suc t) ps (λ i. h (suc i)))
+pub sound_rents : (t : ℕ) (l : List ℕ) → ((i : ℕ) → get_or l i 0 ≤ max_rent) → rents_tried t l ≡ passes
+sound_rents t [] h = refl
+sound_rents t (p ∷ ps) h = rw (le-ltb max_rent p (h 0)) (sound_rents (suc t) ps (λ i. h (suc i)))
 
 -- ---- one answer
 
 -- two outcomes that say the same are the same
-pub refusal-unique : (a b : Outcome) (x : Tried) → said a ≡ x → said b ≡ x → a ≡ b
-refusal-unique Sound Sound x p q = refl
-refusal-unique Sound (Refused r) x p q = let z : ◌≡◌ {A = ℕ} 0 1 = cc in absurd (omega arith)
-refusal-unique (Refused r) Sound x p q = let z : ◌≡◌ {A = ℕ} 0 1 = cc in absurd (omega arith)
-refusal-unique (Refused r) (Refused s) x p q =
+pub refusal_unique : (a b : Outcome) (x : Tried) → said a ≡ x → said b ≡ x → a ≡ b
+refusal_unique Sound Sound x p q = refl
+refusal_unique Sound (Refused r) x p q = let z : ◌≡◌ {A = ℕ} 0 1 = cc in absurd (omega arith)
+refusal_unique (Refused r) Sound x p q = let z : ◌≡◌ {A = ℕ} 0 1 = cc in absurd (omega arith)
+refusal_unique (Refused r) (Refused s) x p q =
     let e : r.number ≡ s.number = cc in
     let f : r.place ≡ s.place = cc in
     ap (λ (n : ℕ). Refused (record { number = n; place = r.place })) e

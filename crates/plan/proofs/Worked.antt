@@ -9,8 +9,8 @@ use borrow.Author.Tests.{ltb-true}
 use Rattle.model.proofs.Refusals.{both_true}
 use Rattle.fields.proofs.Bytes.{AllBelow}
 use Rattle.fields.specs.Bytes.{bytes_of}
-use Rattle.plan.specs.PlanFile.{shape_of, statedAt, flagsPart, rentsAt, planBytes}
-use Rattle.plan.proofs.Standing.{is-bytes}
+use Rattle.plan.specs.PlanFile.{shape_of, stated_at, flags_part, rents_at, plan_bytes}
+use Rattle.plan.proofs.Standing.{is_bytes}
 use Rattle.plan.proofs.Written.{Fits, Holds, read_back}
 
 -- a plan that costs 258, with one flag and one rent
@@ -22,23 +22,23 @@ abbrev all_below : (m : ℕ) → List ℕ → Bool
 all_below m [] = true
 all_below m (x ∷ l) = ltb x m && all_below m l
 
-all-below : (m : ℕ) (l : List ℕ) → 0 < m → all_below m l ≡ true → AllBelow m l
-all-below m [] z h i = z
-all-below m (x ∷ l) z h zero = ltb-true x m (both_true (ltb x m) (all_below m l) h).0
-all-below m (x ∷ l) z h (suc i) = all-below m l z (both_true (ltb x m) (all_below m l) h).1 i
+all_below_lem : (m : ℕ) (l : List ℕ) → 0 < m → all_below m l ≡ true → AllBelow m l
+all_below_lem m [] z h i = z
+all_below_lem m (x ∷ l) z h zero = ltb-true x m (both_true (ltb x m) (all_below m l) h).0
+all_below_lem m (x ∷ l) z h (suc i) = all_below_lem m l z (both_true (ltb x m) (all_below m l) h).1 i
 
 fits : Fits 1 258 (1 ∷ []) (65539 ∷ [])
 fits = record {
   few = omega arith;
   flags_long = refl;
-  rents-long = refl;
-  cost-small = omega arith;
-  rents-small = all-below 4294967296 (65539 ∷ []) (omega arith) refl;
+  rents_long = refl;
+  cost_small = omega arith;
+  rents_small = all_below_lem 4294967296 (65539 ∷ []) (omega arith) refl;
 }
 
 -- its bytes are those of the document's layout
-written : planBytes 258 (1 ∷ []) (65539 ∷ []) ≡ file
-unfolding planBytes bytes_of
+written : plan_bytes 258 (1 ∷ []) (65539 ∷ []) ≡ file
+unfolding plan_bytes bytes_of
 written = refl
 
 -- what is read back from them
@@ -46,5 +46,5 @@ pub read : Holds 1 258 (1 ∷ []) (65539 ∷ []) file
 read = rw written at (read_back fits)
 
 -- and they stand for nothing else
-pub stands : file ≡ planBytes (statedAt file) (flagsPart (shape_of 1) file) (rentsAt (shape_of 1) file)
-stands = is-bytes 1 file (all-below 256 file (omega arith) refl) read.tried
+pub stands : file ≡ plan_bytes (stated_at file) (flags_part (shape_of 1) file) (rents_at (shape_of 1) file)
+stands = is_bytes 1 file (all_below_lem 256 file (omega arith) refl) read.tried

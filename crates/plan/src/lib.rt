@@ -2,8 +2,8 @@
 // It knows nothing of what flags and rents mean.
 ghost use Rattle.std.specs.Prelude.{◌≡◌, ◌+◌, ◌<◌, get_or};
 ghost use Rattle.model.specs.Refusals.{said};
-ghost use Rattle.plan.specs.PlanFile.{statedAt, rentIn, sectionTried, flags_of, rentsOf, rentsTried};
-ghost use Rattle.plan.specs.Reading.{rentsInto};
+ghost use Rattle.plan.specs.PlanFile.{stated_at, rent_in, section_tried, flags_of, rents_of, rents_tried};
+ghost use Rattle.plan.specs.Reading.{rents_into};
 
 use model::{Outcome, Refusal, Rent};
 use trace::Checked;
@@ -12,7 +12,7 @@ mod rows;
 
 // The first of refusals 1 to 12 that holds of a trace and a plan.
 pub fn refusal(trace: &[u8], plan: &[u8]) -> Outcome
-    ensures { said result ≡ sectionTried trace.now plan.now }
+    ensures { said result ≡ section_tried trace.now plan.now }
 {
     match trace::check(trace) {
         Checked::Refused(r) => Outcome::Refused(r),
@@ -36,7 +36,7 @@ pub fn flags<'a>(trace: &[u8], plan: &'a [u8]) -> &'a [u8]
 
 // The rents, four bytes each: a part of the plan, and the empty part with a refusal.
 pub fn rents<'a>(trace: &[u8], plan: &'a [u8]) -> &'a [u8]
-    ensures { result.now ≡ rentsOf trace.now plan.now }
+    ensures { result.now ≡ rents_of trace.now plan.now }
 {
     match refusal(trace, plan) {
         Outcome::Refused(_) => &plan[..0],
@@ -49,7 +49,7 @@ pub fn rents<'a>(trace: &[u8], plan: &'a [u8]) -> &'a [u8]
 
 // The cost that the plan states.
 pub fn stated_cost(plan: &[u8]) -> u64
-    ensures { result ≡ statedAt plan.now }
+    ensures { result ≡ stated_at plan.now }
 {
     fields::u64_at(plan, 8)
 }
@@ -67,7 +67,7 @@ pub fn flag(plan: &[u8], t: usize) -> u64
 
 // Rent t of a rents' part, counted from 0.
 pub fn rent(part: &[u8], t: usize) -> u64
-    ensures { (result ≡ rentIn part.now t) × (result < 4294967296) }
+    ensures { (result ≡ rent_in part.now t) × (result < 4294967296) }
 {
     if part.len() / rows::Rents::SIZE < t {
         0
@@ -78,7 +78,7 @@ pub fn rent(part: &[u8], t: usize) -> u64
 
 // The rents of a rents' part as numbers, as many as `out` has places for; the rest of `out` is kept.
 pub fn read_rents(part: &[u8], out: &mut [u32])
-    ensures { out.new ≡ rentsInto part.now out.old }
+    ensures { out.new ≡ rents_into part.now out.old }
 {
     let n = rows::fewer(part.len() / rows::Rents::SIZE, out.len());
     let mut t: usize = 0;
@@ -90,7 +90,7 @@ pub fn read_rents(part: &[u8], out: &mut [u32])
 
 // Refusal 17 at the first gap whose rent is too large.
 pub fn rents_refusal(rents: &[u32]) -> Outcome
-    ensures { said result ≡ rentsTried 0 rents.now }
+    ensures { said result ≡ rents_tried 0 rents.now }
 {
     let mut t: usize = 0;
     while t < rents.len() {

@@ -1,7 +1,7 @@
 // The sizes of a plan's parts, and rows 9 to 12 in their order.
 ghost use Rattle.std.specs.Prelude.{◌≡◌, ◌<◌, min};
 ghost use Rattle.model.specs.Refusals.{said};
-ghost use Rattle.plan.specs.PlanFile.{markedPlan, planTried};
+ghost use Rattle.plan.specs.PlanFile.{marked_plan, plan_tried};
 
 use model::{Outcome, Refusal};
 
@@ -36,7 +36,7 @@ pub fn fewer(a: usize, b: usize) -> usize
 
 // Whether the mark, the version and the zero byte are right.
 pub fn marked(plan: &[u8]) -> bool
-    ensures { result ≡ markedPlan plan.now }
+    ensures { result ≡ marked_plan plan.now }
 {
     if fields::byte_at(plan, 0) != b'C' as u64 {
         return false;
@@ -56,7 +56,7 @@ pub fn marked(plan: &[u8]) -> bool
 // Rows 9 to 12, against a trace of n requests.
 pub fn tried(n: usize, plan: &[u8]) -> Outcome
     requires { n < 65536 }
-    ensures { said result ≡ planTried n plan.now }
+    ensures { said result ≡ plan_tried n plan.now }
 {
     if plan.len() < Head::SIZE {
         return Outcome::Refused(Refusal {

@@ -8,27 +8,27 @@ use lib.IntN.{pos}
 use lib.Ieee.{binary64, in_float, of_int, to_unsigned}
 use lib.Ieee.Exact.{HasValue}
 use lib.Ieee.Back.{round_whole, unsigned_back}
-use Rattle.model.specs.Numbers.{maxPlanCost}
+use Rattle.model.specs.Numbers.{max_plan_cost}
 use Rattle.model.specs.Refusals.{Answer, fine, refused}
-use Rattle.ratio.specs.Ratio.{said, as_float, ratioOf}
+use Rattle.ratio.specs.Ratio.{said, as_float, ratio_of}
 use Rattle.ratio.specs.declared.Rated.{Rated}
 use Rattle.ratio.specs.declared.Rated.TheVariants.{Gave, Refused}
 
 -- a refusal is its number and place
-same-refusal : (n m p q : ℕ) → n ≡ m → p ≡ q
+same_refusal : (n m p q : ℕ) → n ≡ m → p ≡ q
     → Refused (record { number = n; place = p }) ≡ Refused (record { number = m; place = q })
-same-refusal n m p q a b = rw (a, b)
+same_refusal n m p q a b = rw (a, b)
 
 -- two answers that say the same are the same
-said-once : (a b : Rated) → said a ≡ said b → a ≡ b
-said-once (Gave g) (Gave h) e = cc
-said-once (Gave g) (Refused r) e = let z : ◌≡◌ {A = ℕ} 0 1 = cc in absurd (omega arith)
-said-once (Refused r) (Gave g) e = let z : ◌≡◌ {A = ℕ} 0 1 = cc in absurd (omega arith)
-said-once (Refused r) (Refused s) e = same-refusal _ _ _ _ (cc) (cc)
+said_once : (a b : Rated) → said a ≡ said b → a ≡ b
+said_once (Gave g) (Gave h) e = cc
+said_once (Gave g) (Refused r) e = let z : ◌≡◌ {A = ℕ} 0 1 = cc in absurd (omega arith)
+said_once (Refused r) (Gave g) e = let z : ◌≡◌ {A = ℕ} 0 1 = cc in absurd (omega arith)
+said_once (Refused r) (Refused s) e = same_refusal _ _ _ _ (cc) (cc)
 
 -- any two permitted answers coincide
-pub ratio-unique : (least measured : ℕ) (a b : Rated) → said a ≡ ratioOf least measured → said b ≡ ratioOf least measured → a ≡ b
-ratio-unique least measured a b p q = said-once a b (cc)
+pub ratio_unique : (least measured : ℕ) (a b : Rated) → said a ≡ ratio_of least measured → said b ≡ ratio_of least measured → a ≡ b
+ratio_unique least measured a b p q = said_once a b (cc)
 
 -- a cost as a float, when nothing is lost: the float is exactly c / 1 and not negative, and going back gives c
 pub record Exactly (c : ℕ) : Type 0 where
@@ -36,8 +36,8 @@ pub record Exactly (c : ℕ) : Type 0 where
   pub back : to_unsigned 64 (as_float c) ≡ c
 
 -- no cost up to 2,048,000,000 is rounded
-pub no-loss : (c : ℕ) → c ≤ maxPlanCost → Exactly c
+pub no_loss : (c : ℕ) → c ≤ max_plan_cost → Exactly c
 unfolding in_float of_int
-no-loss c h =
+no_loss c h =
     let k : c ≤ 2 ^ 53 = omega arith in
     record { value = round_whole binary64 false c k; back = (unsigned_back binary64 64 c (le→leb c (2 ^ 53) k) (omega arith)).1 }

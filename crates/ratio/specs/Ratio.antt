@@ -2,7 +2,7 @@
 use Rattle.std.specs.Prelude.{ℕ, Bool, true, false, cond, ◌||◌, eqb, ltb, pos, Float}
 use Rattle.std.specs.Float.{binary64}
 use Rattle.std.specs.Float.Ieee.{of_int, div}
-use Rattle.model.specs.Numbers.{maxPlanCost}
+use Rattle.model.specs.Numbers.{max_plan_cost}
 use Rattle.model.specs.Refusals.{Tried, passes, row, Answer, fine, refused, answer}
 use Rattle.ratio.specs.declared.Gap.{Gap}
 use Rattle.ratio.specs.declared.Gap.TheVariants.{NoCost, NoRatio, Ratio}
@@ -10,9 +10,9 @@ use Rattle.ratio.specs.declared.Rated.{Rated}
 use Rattle.ratio.specs.declared.Rated.TheVariants.{Gave, Refused}
 
 -- rows 20 and 21
-unfoldable pub ratioTried : (least measured : ℕ) → Tried
-ratioTried least measured =
-    row (ltb maxPlanCost least || ltb maxPlanCost measured) 20 0
+unfoldable pub ratio_tried : (least measured : ℕ) → Tried
+ratio_tried least measured =
+    row (ltb max_plan_cost least || ltb max_plan_cost measured) 20 0
     (row (ltb measured least) 21 0
     passes)
 
@@ -28,8 +28,8 @@ gap_of least measured =
     (Ratio (div binary64 (as_float measured) (as_float least)))
 
 -- the gap ratio
-abbrev pub ratioOf : (least measured : ℕ) → Answer Gap
-ratioOf least measured = answer (ratioTried least measured) (gap_of least measured)
+abbrev pub ratio_of : (least measured : ℕ) → Answer Gap
+ratio_of least measured = answer (ratio_tried least measured) (gap_of least measured)
 
 -- document 01's number and values for each case of `Rated`
 abbrev pub said : Rated → Answer Gap

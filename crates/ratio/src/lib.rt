@@ -1,6 +1,6 @@
 // The gap ratio of a least cost and a measured one: one exact division, or the word that there is none.
 ghost use Rattle.std.specs.Prelude.{◌≡◌};
-ghost use Rattle.ratio.specs.Ratio.{said, ratioOf};
+ghost use Rattle.ratio.specs.Ratio.{said, ratio_of};
 
 use model::{PlanCost, Refusal};
 
@@ -21,7 +21,7 @@ pub enum Rated {
 
 // The measured cost by the least.
 pub fn ratio(least: u64, measured: u64) -> Rated
-    ensures { said result ≡ ratioOf least measured }
+    ensures { said result ≡ ratio_of least measured }
 {
     if least > PlanCost::MAX {
         return Rated::Refused(Refusal {

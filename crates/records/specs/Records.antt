@@ -8,8 +8,8 @@ abbrev pub head_of : (slots requests fill : ℕ) → List ℕ
 head_of w n f = 67 ∷ 84 ∷ 82 ∷ bytes_of 2 1 ++ w ∷ bytes_of 2 n ++ bytes_of 4 f
 
 -- the item in two bytes, the kind in one, a zero byte, the cost in four
-abbrev pub recordOf : (item kind cost : ℕ) → List ℕ
-recordOf i k c = bytes_of 2 i ++ k ∷ 0 ∷ bytes_of 4 c
+abbrev pub record_of : (item kind cost : ℕ) → List ℕ
+record_of i k c = bytes_of 2 i ++ k ∷ 0 ∷ bytes_of 4 c
 
 -- the list with these from place `at` on, where it has room for all of them; else as it was
 abbrev pub laid : List ℕ → (at : ℕ) → List ℕ → List ℕ

@@ -1,7 +1,7 @@
 // The bytes of a trace file, piece by piece, for programs that make their own traces. No limit of
 // document 01 is kept here, so that a trace that breaks one can be made too.
 ghost use Rattle.std.specs.Prelude.{◌≡◌, take};
-ghost use Rattle.records.specs.Records.{head_of, recordOf, laid};
+ghost use Rattle.records.specs.Records.{head_of, record_of, laid};
 
 // What stands before the records: the mark, version 1, w, n and F.
 pub fn head(slots: u8, requests: u16, fill: u32) -> [u8; 12]
@@ -25,7 +25,7 @@ pub fn head(slots: u8, requests: u16, fill: u32) -> [u8; 12]
 
 // One request: its item, its kind (0 read, 1 write) and its cost.
 pub fn record(item: u16, kind: u8, cost: u32) -> [u8; 8]
-    ensures { result ≡ recordOf item kind cost }
+    ensures { result ≡ record_of item kind cost }
 {
     [
         (item % 256) as u8,

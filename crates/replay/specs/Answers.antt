@@ -6,10 +6,10 @@ use Rattle.replay.specs.declared.Replayed.{Replayed}
 use Rattle.replay.specs.declared.Replayed.TheVariants.{Done, Refused}
 
 -- the totals that a struct holds
-abbrev pub totalsIn : code.Totals → Totals
-totalsIn s = record { total = s.total; misses = s.misses; fills = s.fills; strikes = s.strikes }
+abbrev pub totals_in : code.Totals → Totals
+totals_in s = record { total = s.total; misses = s.misses; fills = s.fills; strikes = s.strikes }
 
 -- the number and place of a refusal, or the totals
 abbrev pub said : Replayed → Answer Totals
-said (Done s) = fine (totalsIn s)
+said (Done s) = fine (totals_in s)
 said (Refused r) = refused r.number r.place

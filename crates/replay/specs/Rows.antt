@@ -13,9 +13,9 @@ row_of false false true = ReadFill
 row_of false false false = ReadPast
 
 -- what a row charges and counts for
-abbrev pub paidIn : Row → (cost fill : ℕ) → Totals
-paidIn ReadHit cost fill = record { total = 0; misses = 0; fills = 0; strikes = 0 }
-paidIn ReadFill cost fill = record { total = cost + fill; misses = 1; fills = 1; strikes = 0 }
-paidIn ReadPast cost fill = record { total = cost; misses = 1; fills = 0; strikes = 0 }
-paidIn WriteHit cost fill = record { total = cost; misses = 0; fills = 0; strikes = 1 }
-paidIn WritePast cost fill = record { total = 0; misses = 0; fills = 0; strikes = 0 }
+abbrev pub paid_in : Row → (cost fill : ℕ) → Totals
+paid_in ReadHit cost fill = record { total = 0; misses = 0; fills = 0; strikes = 0 }
+paid_in ReadFill cost fill = record { total = cost + fill; misses = 1; fills = 1; strikes = 0 }
+paid_in ReadPast cost fill = record { total = cost; misses = 1; fills = 0; strikes = 0 }
+paid_in WriteHit cost fill = record { total = cost; misses = 0; fills = 0; strikes = 1 }
+paid_in WritePast cost fill = record { total = 0; misses = 0; fills = 0; strikes = 0 }

@@ -1,9 +1,9 @@
 // Replay of flags on a trace: the refusals 13, 14 and 15, and the charge of every request.
 // It knows nothing of plan files and rents.
 ghost use Rattle.std.specs.Prelude.{◌≡◌};
-ghost use Rattle.replay.specs.Replay.{replayOf};
-ghost use Rattle.replay.specs.Answers.{said, totalsIn};
-ghost use Rattle.replay.specs.Rows.{row_of, paidIn};
+ghost use Rattle.replay.specs.Replay.{replay_of};
+ghost use Rattle.replay.specs.Answers.{said, totals_in};
+ghost use Rattle.replay.specs.Rows.{row_of, paid_in};
 
 use model::{Outcome, Refusal, Requests};
 use trace::Checked;
@@ -40,7 +40,7 @@ pub enum Replayed {
 
 // The totals of flags on a trace, or the first of refusals 1 to 8, 11 and 13 to 15 that holds.
 pub fn replay(trace: &[u8], flags: &[u8]) -> Replayed
-    ensures { said result ≡ replayOf trace.now flags.now }
+    ensures { said result ≡ replay_of trace.now flags.now }
 {
     let mut next = [0u16; Requests::MAX];
     let mut prev = [0u16; Requests::MAX];
@@ -82,7 +82,7 @@ pub fn row_of(write: bool, before: bool, after: bool) -> Row
 
 // What a row charges and counts for.
 pub fn paid_of(row: Row, cost: u32, fill: u32) -> Totals
-    ensures { totalsIn result ≡ paidIn row cost fill }
+    ensures { totals_in result ≡ paid_in row cost fill }
 {
     match row {
         Row::ReadHit => sums::counted(0, 0, 0, 0),

@@ -1,10 +1,10 @@
 // Rows 13, 14 and 15, each over the whole input. Whether an item is held before a request is read off the flag of its previous request.
 ghost use Rattle.std.specs.Prelude.{◌≡◌, ◌<◌, cond};
-ghost use Rattle.model.specs.Numbers.{maxRequests};
+ghost use Rattle.model.specs.Numbers.{max_requests};
 ghost use Rattle.model.specs.Refusals.{said, refusal};
-ghost use Rattle.trace.specs.TraceFile.{traceIn};
-ghost use Rattle.replay.specs.Replay.{valuesTried, flagsTried};
-ghost use Rattle.replay.specs.Linked.{flagAt, heldBy, strayBy, Backward, Forward, standsOf, roomOf};
+ghost use Rattle.trace.specs.TraceFile.{trace_in};
+ghost use Rattle.replay.specs.Replay.{values_tried, flags_tried};
+ghost use Rattle.replay.specs.Linked.{flag_at, held_by, stray_by, Backward, Forward, stands_of, room_of};
 
 use model::{Outcome, Refusal, Requests};
 
@@ -34,7 +34,7 @@ pub fn bit(b: bool) -> usize
 
 // Whether flag t is 1; past the end it is not.
 pub fn flag(flags: &[u8], t: usize) -> bool
-    ensures { result ≡ flagAt flags.now t }
+    ensures { result ≡ flag_at flags.now t }
 {
     if t < flags.len() {
         return flags[t] == 1;
@@ -44,8 +44,8 @@ pub fn flag(flags: &[u8], t: usize) -> bool
 
 // Whether the item of request t is held before it.
 pub fn held(flags: &[u8], prev: &[u16; Requests::MAX], t: usize) -> bool
-    requires { t < maxRequests }
-    ensures { result ≡ heldBy flags.now prev.now t }
+    requires { t < max_requests }
+    ensures { result ≡ held_by flags.now prev.now t }
 {
     let p = wide(prev[t]);
     if p < flags.len() {
@@ -62,8 +62,8 @@ pub fn stray(
     prev: &[u16; Requests::MAX],
     t: usize,
 ) -> bool
-    requires { t < maxRequests }
-    ensures { result ≡ strayBy trace.now flags.now next.now prev.now t }
+    requires { t < max_requests }
+    ensures { result ≡ stray_by trace.now flags.now next.now prev.now t }
 {
     if !flag(flags, t) {
         return false;
@@ -79,7 +79,7 @@ pub fn stray(
 
 // Row 13: every flag is 0 or 1.
 pub fn values(flags: &[u8]) -> Outcome
-    ensures { said result ≡ valuesTried 0 flags.now }
+    ensures { said result ≡ values_tried 0 flags.now }
 {
     let mut t: usize = 0;
     while t < flags.len() {
@@ -99,7 +99,7 @@ pub fn stands(
     prev: &[u16; Requests::MAX],
 ) -> Outcome
     requires { Forward trace.now flags.now next.now prev.now }
-    ensures { said result ≡ standsOf trace.now flags.now }
+    ensures { said result ≡ stands_of trace.now flags.now }
 {
     let mut t: usize = 0;
     while t < flags.len() {
@@ -114,7 +114,7 @@ pub fn stands(
 // Row 15: no gap holds more items than there are slots. A kept item is counted in every gap of the keep.
 pub fn room(trace: &[u8], flags: &[u8], prev: &[u16; Requests::MAX]) -> Outcome
     requires { Backward trace.now flags.now prev.now }
-    ensures { said result ≡ roomOf trace.now flags.now }
+    ensures { said result ≡ room_of trace.now flags.now }
 {
     let w = trace::slots(trace);
     let mut within: usize = 0;
@@ -137,7 +137,7 @@ pub fn tried(
     prev: &[u16; Requests::MAX],
 ) -> Outcome
     requires { Forward trace.now flags.now next.now prev.now }
-    ensures { said result ≡ flagsTried (traceIn trace.now) flags.now }
+    ensures { said result ≡ flags_tried (trace_in trace.now) flags.now }
 {
     if let Outcome::Refused(r) = values(flags) {
         return Outcome::Refused(r);

@@ -1,9 +1,9 @@
 // What each request pays, and the totals.
 ghost use Rattle.std.specs.Prelude.{◌≡◌, ℕ, ◌≤◌};
-ghost use Rattle.model.specs.Numbers.{maxCost};
-ghost use Rattle.trace.specs.TraceFile.{traceIn};
-ghost use Rattle.replay.specs.Replay.{totalsOf};
-ghost use Rattle.replay.specs.Answers.{totalsIn};
+ghost use Rattle.model.specs.Numbers.{max_cost};
+ghost use Rattle.trace.specs.TraceFile.{trace_in};
+ghost use Rattle.replay.specs.Replay.{totals_of};
+ghost use Rattle.replay.specs.Answers.{totals_in};
 ghost use Rattle.replay.specs.Linked.{Backward, Adds, paid, plus};
 
 use crate::rows::{flag, held};
@@ -12,7 +12,7 @@ use model::Requests;
 
 // The four numbers.
 pub fn counted(total: u64, misses: u64, fills: u64, strikes: u64) -> Totals
-    ensures { totalsIn result ≡ record { total = total; misses = misses; fills = fills; strikes = strikes } }
+    ensures { totals_in result ≡ record { total = total; misses = misses; fills = fills; strikes = strikes } }
 {
     Totals {
         total,
@@ -24,16 +24,16 @@ pub fn counted(total: u64, misses: u64, fills: u64, strikes: u64) -> Totals
 
 // What a request pays and counts for, by whether its item is held before it and after it: the table of charges.
 pub fn paid_for(fill: u64, write: bool, cost: u64, before: bool, after: bool) -> Totals
-    requires { (fill ≤ maxCost) × (cost ≤ maxCost) }
-    ensures { (w i : ℕ) → totalsIn result ≡ paid (record { slots = w; fill = fill }) (record { write = write; item = i; cost = cost }) before after }
+    requires { (fill ≤ max_cost) × (cost ≤ max_cost) }
+    ensures { (w i : ℕ) → totals_in result ≡ paid (record { slots = w; fill = fill }) (record { write = write; item = i; cost = cost }) before after }
 {
     paid_of(row_of(write, before, after), cost as u32, fill as u32)
 }
 
 // One after the other.
 pub fn add(a: Totals, b: Totals) -> Totals
-    requires { Adds (totalsIn a) (totalsIn b) }
-    ensures { totalsIn result ≡ plus (totalsIn a) (totalsIn b) }
+    requires { Adds (totals_in a) (totals_in b) }
+    ensures { totals_in result ≡ plus (totals_in a) (totals_in b) }
 {
     Totals {
         total: a.total + b.total,
@@ -46,7 +46,7 @@ pub fn add(a: Totals, b: Totals) -> Totals
 // The totals of the flags.
 pub fn totals(trace: &[u8], flags: &[u8], prev: &[u16; Requests::MAX]) -> Totals
     requires { Backward trace.now flags.now prev.now }
-    ensures { totalsIn result ≡ totalsOf (traceIn trace.now) flags.now }
+    ensures { totals_in result ≡ totals_of (trace_in trace.now) flags.now }
 {
     let fill = trace::fill(trace);
     let mut sum = Totals {

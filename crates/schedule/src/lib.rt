@@ -3,7 +3,7 @@ mod numbers;
 
 ghost use Rattle.std.specs.Prelude.{◌≡◌};
 ghost use Rattle.pages.specs.Pages.{Lies};
-ghost use Rattle.schedule.specs.Schedule.{steppedOf, said, headingLine, stepLine, requestPage, lastPage};
+ghost use Rattle.schedule.specs.Schedule.{stepped_of, said, heading_line, step_line, request_page, last_page};
 
 use audit::Audited;
 use model::Refusal;
@@ -36,7 +36,7 @@ pub enum Stepped {
 
 // What happens at request t, counted from 0; or the first of refusals 1 to 17 that holds.
 pub fn step_of(trace: &[u8], plan: &[u8], t: usize) -> Stepped
-    ensures { said result ≡ steppedOf trace.now plan.now t }
+    ensures { said result ≡ stepped_of trace.now plan.now t }
 {
     match audit::audit(trace, plan) {
         Audited::Refused(r) => Stepped::Refused(r),
@@ -51,7 +51,7 @@ pub fn step_of(trace: &[u8], plan: &[u8], t: usize) -> Stepped
 
 // The line above the requests.
 pub fn heading(page: &mut [u8; ROOM]) -> usize
-    ensures { Lies headingLine page.old result page.new }
+    ensures { Lies heading_line page.old result page.new }
 {
     lay(
         b"  no  kind    item     cost  before  after   charge  why            in gap       rent\n",
@@ -62,7 +62,7 @@ pub fn heading(page: &mut [u8; ROOM]) -> usize
 
 // The line of request t, counted from 0: nothing past the last.
 pub fn request(trace: &[u8], plan: &[u8], t: usize, page: &mut [u8; ROOM]) -> usize
-    ensures { Lies (requestPage trace.now plan.now t) page.old result page.new }
+    ensures { Lies (request_page trace.now plan.now t) page.old result page.new }
 {
     match step_of(trace, plan, t) {
         Stepped::At(s) => row(s, page),
@@ -73,7 +73,7 @@ pub fn request(trace: &[u8], plan: &[u8], t: usize, page: &mut [u8; ROOM]) -> us
 
 // The line below the requests: all four totals.
 pub fn last(trace: &[u8], plan: &[u8], page: &mut [u8; ROOM]) -> usize
-    ensures { Lies (lastPage trace.now plan.now) page.old result page.new }
+    ensures { Lies (last_page trace.now plan.now) page.old result page.new }
 {
     match audit::audit(trace, plan) {
         Audited::Refused(r) => sentences::refusal(r, trace::slots(trace) as u64, page),
@@ -87,7 +87,7 @@ pub fn last(trace: &[u8], plan: &[u8], page: &mut [u8; ROOM]) -> usize
 
 // A request in columns.
 fn row(s: Step, page: &mut [u8; ROOM]) -> usize
-    ensures { Lies (stepLine s) page.old result page.new }
+    ensures { Lies (step_line s) page.old result page.new }
 {
     lay(
         b"@@@@  [read |write]@@@@@@@ @@@@@@@@  [no |yes]     [no |yes]@@@@@@@@@@@  \

@@ -1,11 +1,11 @@
 // What happens at one request, told from the flags as the replay tells it: by the same rows and the same charges.
 ghost use Rattle.std.specs.Prelude.{◌≡◌, suc, ◌<◌};
-ghost use Rattle.model.specs.Numbers.{maxRequests};
+ghost use Rattle.model.specs.Numbers.{max_requests};
 ghost use Rattle.model.specs.Plans.{occupancy};
-ghost use Rattle.trace.specs.TraceFile.{traceIn};
+ghost use Rattle.trace.specs.TraceFile.{trace_in};
 ghost use Rattle.replay.specs.Replay.{named};
-ghost use Rattle.replay.specs.Linked.{flagAt, heldBy};
-ghost use Rattle.schedule.specs.Schedule.{bit_of, word_of, stepBy, step_of};
+ghost use Rattle.replay.specs.Linked.{flag_at, held_by};
+ghost use Rattle.schedule.specs.Schedule.{bit_of, word_of, step_by, step_of};
 ghost use Rattle.schedule.specs.Counted.{Audited, Linked};
 
 use crate::Step;
@@ -27,7 +27,7 @@ pub fn of_plan(trace: &[u8], plan: &[u8], t: usize) -> Step
 // Request t by the flags and the list of previous requests.
 fn of_flags(trace: &[u8], flags: &[u8], prev: &[u16; Requests::MAX], t: usize, rent: u64) -> Step
     requires { Linked trace.now flags.now prev.now t }
-    ensures { result ≡ stepBy (traceIn trace.now) flags.now t rent }
+    ensures { result ≡ step_by (trace_in trace.now) flags.now t rent }
 {
     let write = trace::kind(trace, t) == 1;
     let before = held(flags, prev, t);
@@ -53,7 +53,7 @@ fn of_flags(trace: &[u8], flags: &[u8], prev: &[u16; Requests::MAX], t: usize, r
 // How many items the gap after request t holds. A kept item is counted in every gap of the keep.
 fn within(trace: &[u8], flags: &[u8], prev: &[u16; Requests::MAX], t: usize) -> u64
     requires { Linked trace.now flags.now prev.now t }
-    ensures { result ≡ occupancy (traceIn trace.now).reqs (named (traceIn trace.now) flags.now) (suc t) }
+    ensures { result ≡ occupancy (trace_in trace.now).reqs (named (trace_in trace.now) flags.now) (suc t) }
 {
     let mut count: u64 = 0;
     let mut s: usize = 0;
@@ -66,8 +66,8 @@ fn within(trace: &[u8], flags: &[u8], prev: &[u16; Requests::MAX], t: usize) -> 
 
 // Whether the item of request t is held before it: as the flag of its previous request says.
 fn held(flags: &[u8], prev: &[u16; Requests::MAX], t: usize) -> bool
-    requires { t < maxRequests }
-    ensures { result ≡ heldBy flags.now prev.now t }
+    requires { t < max_requests }
+    ensures { result ≡ held_by flags.now prev.now t }
 {
     let p = wide(prev[t]);
     if p < flags.len() {
@@ -78,7 +78,7 @@ fn held(flags: &[u8], prev: &[u16; Requests::MAX], t: usize) -> bool
 
 // Whether flag t is 1; past the end it is not.
 fn flag(flags: &[u8], t: usize) -> bool
-    ensures { result ≡ flagAt flags.now t }
+    ensures { result ≡ flag_at flags.now t }
 {
     if t < flags.len() {
         return flags[t] == 1;

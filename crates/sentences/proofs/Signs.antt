@@ -9,18 +9,18 @@ use lib.Dec.{eqb, ltb}
 use borrow.Author.Tests.{eq-eqb, ne_eqb, lt-ltb, le-ltb}
 use Rattle.decimal.specs.Decimal.{decimal}
 use Rattle.pages.specs.Pages.{filled, write}
-use Rattle.pages.proofs.Laws.{split, write-join}
-use Rattle.sentences.specs.Spelled.{State, quiet, choice_of, barOf, end_of, run_of, columnOf, zerosOf, shownOf, sign_of}
+use Rattle.pages.proofs.Laws.{split, write_join}
+use Rattle.sentences.specs.Spelled.{State, quiet, choice_of, bar_of, end_of, run_of, column_of, zeros_of, shown_of, sign_of}
 use Rattle.sentences.specs.Signed.{state_of, Signed}
 use Rattle.sentences.specs.declared.Pen.{Pen}
 
 module _ (s : State) (b next n : ℕ) where
-  pub sign-choice : b ≡ 91 → sign_of s b next n ≡ choice_of s n
+  pub sign_choice : b ≡ 91 → sign_of s b next n ≡ choice_of s n
   unfolding sign_of
-  sign-choice e = rw (eq-eqb b 91 e)
+  sign_choice e = rw (eq-eqb b 91 e)
 
   module _ (n1 : b ≡ 91 → ⊥) where
-    pub sign-bar : b ≡ 124 → sign_of s b next n ≡ barOf s
+    pub sign-bar : b ≡ 124 → sign_of s b next n ≡ bar_of s
     unfolding sign_of
     sign-bar e = rw (ne_eqb b 91 n1, eq-eqb b 124 e)
 
@@ -34,63 +34,63 @@ module _ (s : State) (b next n : ℕ) where
         unfolding sign_of
         sign-hidden h = rw (ne_eqb b 91 n1, ne_eqb b 124 n2, ne_eqb b 93 n3, lt-ltb 0 s.hidden h)
 
-        pub sign-shown : s.hidden ≤ 0 → sign_of s b next n ≡ shownOf s b next n
+        pub sign-shown : s.hidden ≤ 0 → sign_of s b next n ≡ shown_of s b next n
         unfolding sign_of
         sign-shown h = rw (ne_eqb b 91 n1, ne_eqb b 124 n2, ne_eqb b 93 n3, le-ltb 0 s.hidden h)
 
   module _ (e : b ≡ 64) where
-    pub shown-run : next ≡ 64 → shownOf s b next n ≡ run_of s
-    unfolding shownOf
+    pub shown-run : next ≡ 64 → shown_of s b next n ≡ run_of s
+    unfolding shown_of
     shown-run q = rw (eq-eqb b 64 e, eq-eqb next 64 q)
 
-    pub shown-column : (next ≡ 64 → ⊥) → shownOf s b next n ≡ columnOf s n
-    unfolding shownOf
+    pub shown-column : (next ≡ 64 → ⊥) → shown_of s b next n ≡ column_of s n
+    unfolding shown_of
     shown-column q = rw (eq-eqb b 64 e, ne_eqb next 64 q)
 
   module _ (n4 : b ≡ 64 → ⊥) where
-    pub shown-zero-run : b ≡ 36 → next ≡ 36 → shownOf s b next n ≡ run_of s
-    unfolding shownOf
+    pub shown-zero-run : b ≡ 36 → next ≡ 36 → shown_of s b next n ≡ run_of s
+    unfolding shown_of
     shown-zero-run e q = rw (ne_eqb b 64 n4, eq-eqb b 36 e, eq-eqb next 36 q)
 
-    pub shown-zeros : b ≡ 36 → (next ≡ 36 → ⊥) → shownOf s b next n ≡ zerosOf s n
-    unfolding shownOf
+    pub shown-zeros : b ≡ 36 → (next ≡ 36 → ⊥) → shown_of s b next n ≡ zeros_of s n
+    unfolding shown_of
     shown-zeros e q = rw (ne_eqb b 64 n4, eq-eqb b 36 e, ne_eqb next 36 q)
 
-    pub shown-plain : (b ≡ 36 → ⊥) → shownOf s b next n ≡ record { bytes = b ∷ []; after = s }
-    unfolding shownOf
+    pub shown-plain : (b ≡ 36 → ⊥) → shown_of s b next n ≡ record { bytes = b ∷ []; after = s }
+    unfolding shown_of
     shown-plain n5 = rw (ne_eqb b 64 n4, ne_eqb b 36 n5)
 
 -- ---- a number with what stands in front of it
 
 -- one byte so many times, then the digits
-pub led-page : (old mid new : List ℕ) (start from at n lead k count : ℕ) → count ≡ k
+pub led_page : (old mid new : List ℕ) (start from at n lead k count : ℕ) → count ≡ k
     → filled from mid ≡ write (filled start old) (replicate count lead) → filled at new ≡ write (filled from mid) (decimal n)
     → filled at new ≡ write (filled start old) (replicate k lead ++ decimal n)
-led-page old mid new start from at n lead k count e h1 h2 =
+led_page old mid new start from at n lead k count e h1 h2 =
     h2
     ∙ (ap (λ p. write p (decimal n)) h1
-    ∙ (write-join (filled start old) (replicate count lead) (decimal n)
+    ∙ (write_join (filled start old) (replicate count lead) (decimal n)
     ∙ ap (λ x. write (filled start old) (replicate x lead ++ decimal n)) e))
 
 module _ (pen : Pen) (n : ℕ) (old mid new : List ℕ) (k count from at : ℕ) (hk : k ≡ length (decimal n))
     (laid : filled at new ≡ write (filled from mid) (decimal n)) where
-  pub signed-column : (d over : ℕ) → count ≡ pen.run + 1 - (k + pen.over) → filled from mid ≡ write (filled pen.at old) (replicate count 32)
+  pub signed_column : (d over : ℕ) → count ≡ pen.run + 1 - (k + pen.over) → filled from mid ≡ write (filled pen.at old) (replicate count 32)
       → d ≡ k + pen.over - (pen.run + 1) → over ≡ min d 256
-      → Signed (columnOf (state_of pen) n) old pen.at (record { at = at; taken = pen.taken + 1; run = 0; over = over; hidden = 0 }) new
-  signed-column d over hs h hd ho =
+      → Signed (column_of (state_of pen) n) old pen.at (record { at = at; taken = pen.taken + 1; run = 0; over = over; hidden = 0 }) new
+  signed_column d over hs h hd ho =
       let es : count ≡ pen.run + 1 - (length (decimal n) + pen.over) = hs ∙ ap (λ x. pen.run + 1 - (x + pen.over)) hk in
       let ed : over ≡ min (length (decimal n) + pen.over - (pen.run + 1)) 256
       = ho ∙ ap (λ x. min x 256) (hd ∙ ap (λ x. x + pen.over - (pen.run + 1)) hk) in
       record {
         state = ap (λ x. record { taken = pen.taken + 1; run = 0; over = x; hidden = 0 }) ed;
-        page = led-page old mid new pen.at from at n 32 _ count es h laid;
+        page = led_page old mid new pen.at from at n 32 _ count es h laid;
       }
 
-  pub signed-zeros : count ≡ pen.run + 1 - k → filled from mid ≡ write (filled pen.at old) (replicate count 48)
-      → Signed (zerosOf (state_of pen) n) old pen.at (record { at = at; taken = pen.taken + 1; run = 0; over = pen.over; hidden = 0 }) new
-  signed-zeros hs h =
+  pub signed_zeros : count ≡ pen.run + 1 - k → filled from mid ≡ write (filled pen.at old) (replicate count 48)
+      → Signed (zeros_of (state_of pen) n) old pen.at (record { at = at; taken = pen.taken + 1; run = 0; over = pen.over; hidden = 0 }) new
+  signed_zeros hs h =
       let es : count ≡ pen.run + 1 - length (decimal n) = hs ∙ ap (λ x. pen.run + 1 - x) hk in
-      record { state = refl; page = led-page old mid new pen.at from at n 48 _ count es h laid }
+      record { state = refl; page = led_page old mid new pen.at from at n 48 _ count es h laid }
 
 -- ---- a sign adds at most one to each count
 
@@ -99,9 +99,9 @@ pub record Grows (s t : State) : Type 0 where
   pub run : t.run ≤ s.run + 1
   pub over : t.over ≤ 256
 
-shown-grows : (s : State) (b next n : ℕ) → s.over ≤ 256 → Grows s (shownOf s b next n).after
-unfolding shownOf
-shown-grows s b next n o =
+shown_grows : (s : State) (b next n : ℕ) → s.over ≤ 256 → Grows s (shown_of s b next n).after
+unfolding shown_of
+shown_grows s b next n o =
     split (eqb b 64)
     (λ e.
     split (eqb next 64)
@@ -129,4 +129,4 @@ grows s b next n o =
     (λ e3.
     split (ltb 0 s.hidden)
     (λ e. rw (e1, e2, e3, e) (record { taken = omega arith; run = omega arith; over = o }))
-    (λ e. rw (e1, e2, e3, e) (shown-grows s b next n o)))))
+    (λ e. rw (e1, e2, e3, e) (shown_grows s b next n o)))))

@@ -41,18 +41,18 @@ abbrev pub sentence : List ℕ
 sentence = letters "refused @ at @: [" ++ (barred reasons ++ letters "]\n")
 
 -- refusal 15: more items in a gap than there are slots
-abbrev pub crowdedPage : (gap slots : ℕ) → List ℕ
-crowdedPage gap slots =
+abbrev pub crowded_page : (gap slots : ℕ) → List ℕ
+crowded_page gap slots =
     cond (eqb slots 1)
     (spelled (letters "refused 15 at @: more than 1 item in gap @\n") (gap ∷ gap ∷ []))
     (spelled (letters "refused 15 at @: more than @ items in gap @\n") (gap ∷ slots ∷ gap ∷ []))
 
 -- `refused N at P: ` and the sentence for N; the slots are the trace's
-unfoldable pub refusalPage : (number place slots : ℕ) → List ℕ
-refusalPage number place slots =
-    cond (eqb number 15) (crowdedPage place slots) (spelled sentence (number ∷ place ∷ number ∷ place ∷ []))
+unfoldable pub refusal_page : (number place slots : ℕ) → List ℕ
+refusal_page number place slots =
+    cond (eqb number 15) (crowded_page place slots) (spelled sentence (number ∷ place ∷ number ∷ place ∷ []))
 
 -- an answer: the value's page, or the refusal's sentence
-abbrev pub answerPage : {A : Type 0} → (slots : ℕ) → (page : A → List ℕ) → Answer A → List ℕ
-answerPage slots page (fine a) = page a
-answerPage slots page (refused number place) = refusalPage number place slots
+abbrev pub answer_page : {A : Type 0} → (slots : ℕ) → (page : A → List ℕ) → Answer A → List ℕ
+answer_page slots page (fine a) = page a
+answer_page slots page (refused number place) = refusal_page number place slots

@@ -1,8 +1,8 @@
 // Sentences, laid into a lent page: a text with its numbers, and each refusal in words.
 ghost use Rattle.std.specs.Prelude.{◌≡◌, ◌-◌, min, get_or, take};
 ghost use Rattle.pages.specs.Pages.{Lies, Cut};
-ghost use Rattle.sentences.specs.Spelled.{columnOf, zerosOf, shownOf, sign_of, nextWord, spelled};
-ghost use Rattle.sentences.specs.Sentences.{crowdedPage, refusalPage};
+ghost use Rattle.sentences.specs.Spelled.{column_of, zeros_of, shown_of, sign_of, next_word, spelled};
+ghost use Rattle.sentences.specs.Sentences.{crowded_page, refusal_page};
 ghost use Rattle.sentences.specs.Signed.{state_of, Small, Signed, Laid};
 
 use model::Refusal;
@@ -57,7 +57,7 @@ pub fn fill(text: &[u8], numbers: &[u64], page: &mut [u8]) -> usize
 
 // `refused N at P: ` and the sentence for N, from 1 on. The slots are the trace's, which the sentence of 15 names.
 pub fn refusal(r: Refusal, slots: u64, page: &mut [u8; ROOM]) -> usize
-    ensures { Lies (refusalPage r.number r.place slots) page.old result page.new }
+    ensures { Lies (refusal_page r.number r.place slots) page.old result page.new }
 {
     if r.number == 15 {
         return crowded(r.place, slots, page);
@@ -98,7 +98,7 @@ pub fn shown(page: &[u8; ROOM], size: usize) -> &[u8]
 
 // Refusal 15: more items in a gap than there are slots.
 fn crowded(gap: u64, slots: u64, page: &mut [u8; ROOM]) -> usize
-    ensures { Lies (crowdedPage gap slots) page.old result page.new }
+    ensures { Lies (crowded_page gap slots) page.old result page.new }
 {
     if slots == 1 {
         return lay(
@@ -142,7 +142,7 @@ fn sign(pen: Pen, b: u8, next: u8, n: u64, page: &mut [u8]) -> Pen
 // One that no choice leaves out.
 fn visible(pen: Pen, b: u8, next: u8, n: u64, page: &mut [u8]) -> Pen
     requires { Small (state_of pen) }
-    ensures { Signed (shownOf (state_of pen) b next n) page.old pen.at result page.new }
+    ensures { Signed (shown_of (state_of pen) b next n) page.old pen.at result page.new }
 {
     let mut to = pen;
     if b == b'@' {
@@ -166,7 +166,7 @@ fn visible(pen: Pen, b: u8, next: u8, n: u64, page: &mut [u8]) -> Pen
 // The last @ of a run: its number.
 fn column(pen: Pen, n: u64, page: &mut [u8]) -> Pen
     requires { Small (state_of pen) }
-    ensures { Signed (columnOf (state_of pen) n) page.old pen.at result page.new }
+    ensures { Signed (column_of (state_of pen) n) page.old pen.at result page.new }
 {
     let width = pen.run + 1;
     let needed = decimal::count(n) + pen.over;
@@ -184,7 +184,7 @@ fn column(pen: Pen, n: u64, page: &mut [u8]) -> Pen
 // The last $ of a run: its number.
 fn zeros(pen: Pen, n: u64, page: &mut [u8]) -> Pen
     requires { Small (state_of pen) }
-    ensures { Signed (zerosOf (state_of pen) n) page.old pen.at result page.new }
+    ensures { Signed (zeros_of (state_of pen) n) page.old pen.at result page.new }
 {
     let width = pen.run + 1;
     let from = pages::repeat(page, pen.at, less(width, decimal::count(n)), b'0');
@@ -200,7 +200,7 @@ fn zeros(pen: Pen, n: u64, page: &mut [u8]) -> Pen
 
 // How many words come before the chosen one, a word later.
 fn next_word(hidden: u64) -> u64
-    ensures { result ≡ nextWord hidden }
+    ensures { result ≡ next_word hidden }
 {
     if hidden == 0 {
         return u64::MAX;

@@ -7,64 +7,64 @@ use mathlib.Core.List.{List}
 use lib.Dec.{ltb}
 use lib.ListN.{length}
 use borrow.Author.Tests.{lt-ltb, le-ltb}
-use Rattle.model.specs.Numbers.{maxRequests}
+use Rattle.model.specs.Numbers.{max_requests}
 use Rattle.model.specs.Refusals.{passes, refusal, row}
 use Rattle.model.specs.declared.Refusal.{Refusal}
-use Rattle.model.proofs.Refusals.{answer-fine, answer-refused}
-use Rattle.trace.specs.TraceFile.{requestsAt, traceTried}
-use Rattle.trace.specs.Answers.{headerIn}
+use Rattle.model.proofs.Refusals.{answer_fine, answer_refused}
+use Rattle.trace.specs.TraceFile.{requests_at, trace_tried}
+use Rattle.trace.specs.Answers.{header_in}
 use Rattle.trace.specs.declared.Header.{Header}
 use Rattle.trace.specs.declared.Checked.TheVariants as checked
-use Rattle.trace.proofs.Sound.{sound-trace}
+use Rattle.trace.proofs.Sound.{sound_trace}
 use Rattle.plan.specs.PlanFile.{shape_of, length_of}
 use Rattle.opening.specs.Opened.{Opened}
 use Rattle.steps.specs.Ready.{Ready}
-use Rattle.solver.specs.Solve.{solveTried, Accepted, Promise}
+use Rattle.solver.specs.Solve.{solve_tried, Accepted, Promise}
 use Rattle.solver.specs.declared.Solved.{Solved}
 use Rattle.solver.specs.declared.Solved.TheVariants as solved
 
 -- ---- rows
 
 module _ (trace : List ℕ) (room : ℕ) where
-  tried-refused : (number place : ℕ) → traceTried trace ≡ refusal number place → solveTried trace room ≡ refusal number place
-  unfolding solveTried
-  tried-refused number place e = rw e
+  tried_refused : (number place : ℕ) → trace_tried trace ≡ refusal number place → solve_tried trace room ≡ refusal number place
+  unfolding solve_tried
+  tried_refused number place e = rw e
 
-  module _ (ok : traceTried trace ≡ passes) where
-    tried-fits : 16 + 5 * requestsAt trace ≤ room → solveTried trace room ≡ passes
-    unfolding solveTried
+  module _ (ok : trace_tried trace ≡ passes) where
+    tried-fits : 16 + 5 * requests_at trace ≤ room → solve_tried trace room ≡ passes
+    unfolding solve_tried
     tried-fits l =
-        let e : ltb room (length_of (shape_of (requestsAt trace))) ≡ false = le-ltb room (16 + requestsAt trace + 4 * requestsAt trace) (omega arith) in
+        let e : ltb room (length_of (shape_of (requests_at trace))) ≡ false = le-ltb room (16 + requests_at trace + 4 * requests_at trace) (omega arith) in
         rw ok (ap (λ (b : Bool). row b 19 0 passes) e)
 
-    tried-short : room < 16 + 5 * requestsAt trace → solveTried trace room ≡ refusal 19 0
-    unfolding solveTried
+    tried-short : room < 16 + 5 * requests_at trace → solve_tried trace room ≡ refusal 19 0
+    unfolding solve_tried
     tried-short l =
-        let e : ltb room (length_of (shape_of (requestsAt trace))) ≡ true = lt-ltb room (16 + requestsAt trace + 4 * requestsAt trace) (omega arith) in
+        let e : ltb room (length_of (shape_of (requests_at trace))) ≡ true = lt-ltb room (16 + requests_at trace + 4 * requests_at trace) (omega arith) in
         rw ok (ap (λ (b : Bool). row b 19 0 passes) e)
 
 -- ---- a trace that is refused
 
-pub refused-permitted : {trace from₀ charges₀ worth₀ from charges worth : List ℕ} {r : Refusal} (buffer : List ℕ)
+pub refused_permitted : {trace from₀ charges₀ worth₀ from charges worth : List ℕ} {r : Refusal} (buffer : List ℕ)
     → Opened trace from₀ charges₀ worth₀ (checked.Refused r) from charges worth → Promise trace buffer (solved.Refused r) buffer
-refused-permitted {trace} {r = r} buffer f =
-    rw (tried-refused trace (length buffer) r.number r.place (answer-refused (traceTried trace) (headerIn trace) r.number r.place f.answer))
+refused_permitted {trace} {r = r} buffer f =
+    rw (tried_refused trace (length buffer) r.number r.place (answer_refused (trace_tried trace) (header_in trace) r.number r.place f.answer))
     (refl, refl)
 
 -- ---- a sound one
 
 module _ {trace from₀ charges₀ worth₀ from charges worth : List ℕ} {h : Header} (f : Opened trace from₀ charges₀ worth₀ (checked.Sound h) from charges worth) where
-  passed : traceTried trace ≡ passes
-  passed = (answer-fine (traceTried trace) (headerIn trace) h f.answer).0
+  passed : trace_tried trace ≡ passes
+  passed = (answer_fine (trace_tried trace) (header_in trace) h f.answer).0
 
-  counted : h.requests ≡ requestsAt trace
-  counted = ap (λ (x : Header). x.requests) (answer-fine (traceTried trace) (headerIn trace) h f.answer).1
+  counted : h.requests ≡ requests_at trace
+  counted = ap (λ (x : Header). x.requests) (answer_fine (trace_tried trace) (header_in trace) h f.answer).1
 
-  pub opened-header : h ≡ headerIn trace
-  opened-header = (answer-fine (traceTried trace) (headerIn trace) h f.answer).1
+  pub opened_header : h ≡ header_in trace
+  opened_header = (answer_fine (trace_tried trace) (header_in trace) h f.answer).1
 
-  pub opened-few : h.requests ≤ maxRequests
-  opened-few = rw counted (sound-trace trace passed).requests
+  pub opened_few : h.requests ≤ max_requests
+  opened_few = rw counted (sound_trace trace passed).requests
 
   module _ (buffer : List ℕ) where
     -- a buffer that is too short is refused
@@ -80,7 +80,7 @@ module _ {trace from₀ charges₀ worth₀ from charges worth : List ℕ} {h : 
         charges₀ = charges₀;
         worth₀ = worth₀;
         lists = f.sound passed;
-        worth-long = ((f.sound passed).started.told (sound-trace trace passed).requests).long ∙ long;
+        worth_long = ((f.sound passed).started.told (sound_trace trace passed).requests).long ∙ long;
         room = omega (arith, counted);
       }
 

@@ -1,6 +1,6 @@
 // From the lists of a sound trace to the plan in the buffer.
 ghost use Rattle.std.specs.Prelude.{◌≡◌};
-ghost use Rattle.trace.specs.Answers.{headerIn};
+ghost use Rattle.trace.specs.Answers.{header_in};
 ghost use Rattle.steps.specs.Ready.{Ready};
 ghost use Rattle.solver.specs.Solve.{Accepted};
 
@@ -19,7 +19,7 @@ pub fn write_least(
     worth: &mut [u32; 2050],
     buffer: &mut [u8],
 ) -> Solved
-    requires { Ready trace.now from.now charges.now worth.old buffer.old × (h ≡ headerIn trace.now) }
+    requires { Ready trace.now from.now charges.now worth.old buffer.old × (h ≡ header_in trace.now) }
     ensures { Accepted trace.now buffer.old result buffer.new }
 {
     let n = h.requests;

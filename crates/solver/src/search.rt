@@ -3,7 +3,7 @@
 // through for its least distance only when the stack is empty.
 ghost use Rattle.std.specs.Prelude.{◌≡◌, suc, ◌*◌, ◌-◌, ◌≤◌, ◌<◌, length, replicate};
 ghost use Rattle.frontier.specs.Frontier.{far};
-ghost use Rattle.steps.specs.Search.{waysBy, Runs, Graph, Finds};
+ghost use Rattle.steps.specs.Search.{ways_by, Runs, Graph, Finds};
 
 use frontier::{Ends, Nodes, offer, refill};
 
@@ -45,8 +45,8 @@ fn spread(
     current: u64,
     left: usize,
 ) -> Ends
-    requires { Graph n from.now len.now × Runs (suc (2 * n)) n (waysBy from.now len.now) dist.old hop.old stack.old list.old ends.top ends.waiting current left × (0 < ends.top) }
-    ensures { Runs (suc (2 * n)) n (waysBy from.now len.now) dist.new hop.new stack.new list.new result.top result.waiting current (left - 1) }
+    requires { Graph n from.now len.now × Runs (suc (2 * n)) n (ways_by from.now len.now) dist.old hop.old stack.old list.old ends.top ends.waiting current left × (0 < ends.top) }
+    ensures { Runs (suc (2 * n)) n (ways_by from.now len.now) dist.new hop.new stack.new list.new result.top result.waiting current (left - 1) }
 {
     let top = ends.top - 1;
     let u = stack[top];
@@ -67,7 +67,7 @@ fn spread(
 // The distances back from point n, until point 0 is reached; hop says where the way goes on from each node.
 pub fn shortest(from: &[u16; 6150], len: &[u32; 6150], n: usize, hop: &mut [u16; 2050]) -> Search
     requires { Graph n from.now len.now × (length hop.old ≡ 2050) }
-    ensures { Finds (suc (2 * n)) n (waysBy from.now len.now) result.dist hop.new }
+    ensures { Finds (suc (2 * n)) n (ways_by from.now len.now) result.dist hop.new }
 {
     let mut s = Search::fresh();
     let mut stack = [1u16; 2050];

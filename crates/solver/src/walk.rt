@@ -1,13 +1,13 @@
 // Moving one slot more along the way that a search found.
 // The walk is handed the trace and the worths, which it does not read, so that its contract can speak of them.
 ghost use Rattle.std.specs.Prelude.{◌≡◌, suc, ◌*◌, ◌≤◌, ◌<◌, length};
-ghost use Rattle.trace.specs.TraceFile.{traceIn};
-ghost use Rattle.steps.specs.Slots.{hopFlags, Trail, Walked};
+ghost use Rattle.trace.specs.TraceFile.{trace_in};
+ghost use Rattle.steps.specs.Slots.{hop_flags, Trail, Walked};
 
 // The flag that a hop from node v to node u changes: from a request to a later one its item is held, to an earlier one held no more.
 fn hopped(flags: &mut [u8; 1024], n: usize, v: usize, u: usize)
     requires { (length flags.old ≡ 1024) × (n ≤ 1024) × (v < suc (2 * n)) × (u < suc (2 * n)) }
-    ensures { flags.new ≡ hopFlags n v u flags.old }
+    ensures { flags.new ≡ hop_flags n v u flags.old }
 {
     if n < v {
         if n < u {
@@ -29,8 +29,8 @@ pub fn walk(
     n: usize,
     k: u8,
 )
-    requires { Trail (traceIn trace.now) n k flags.old worth.now hop.now }
-    ensures { Walked (traceIn trace.now) (suc k) flags.new worth.now }
+    requires { Trail (trace_in trace.now) n k flags.old worth.now hop.now }
+    ensures { Walked (trace_in trace.now) (suc k) flags.new worth.now }
 {
     let mut left: usize = 2050;
     let mut v: usize = 0;

@@ -6,18 +6,18 @@ use native.Mathlib.Decide.{dec_lt}
 use mathlib.Core.List.{List}
 use lib.ListN.{length, get_or, replicate, length-replicate, get_or-replicate, get_or-eq_default}
 use Rattle.model.specs.Model.{Trace}
-use Rattle.model.specs.Plans.{flagsIn}
-use Rattle.trace.specs.TraceFile.{requestsAt, slotsAt, fillAt, traceIn, SoundTrace}
-use Rattle.trace.proofs.Sound.{sound-trace, trace-within, reqs-length}
-use Rattle.links.proofs.Answered.{next-at, prev-at}
-use Rattle.network.specs.Sound.{count, noFlags, Start}
-use Rattle.network.proofs.Worths.{start-sound, more-slots}
-use Rattle.network.proofs.Limits.{start-bounded, rents-limit, start-rents-limit}
-use Rattle.network.proofs.Same.{sound-same}
-use Rattle.opening.specs.Opened.{nextsOf, prevsOf}
-use Rattle.ways.proofs.Laws.{source-at, charge-at}
-use Rattle.worths.proofs.Opening.{started-start}
-use Rattle.steps.specs.Lists.{Lists, pointsIn, requestsIn, Fits}
+use Rattle.model.specs.Plans.{flags_in}
+use Rattle.trace.specs.TraceFile.{requests_at, slots_at, fill_at, trace_in, SoundTrace}
+use Rattle.trace.proofs.Sound.{sound_trace, trace_within, reqs_length}
+use Rattle.links.proofs.Answered.{next_at, prev_at}
+use Rattle.network.specs.Sound.{count, no_flags, Start}
+use Rattle.network.proofs.Worths.{start_sound, more_slots}
+use Rattle.network.proofs.Limits.{start_bounded, rents_limit, start_rents_limit}
+use Rattle.network.proofs.Same.{sound_same}
+use Rattle.opening.specs.Opened.{nexts_of, prevs_of}
+use Rattle.ways.proofs.Laws.{source_at, charge_stored}
+use Rattle.worths.proofs.Opening.{started_start}
+use Rattle.steps.specs.Lists.{Lists, points_in, requests_in, Fits}
 use Rattle.steps.specs.Slots.{Laid, Cheap}
 use Rattle.steps.specs.Ready.{Ready}
 
@@ -25,43 +25,43 @@ use Rattle.steps.specs.Ready.{Ready}
 
 module _ {trace : List ℕ} {n fill k : ℕ} {worth flags from charges : List ℕ} (l : Laid trace n fill k worth flags from charges) where
   -- as many requests as the trace has
-  pub laid-size : n ≡ count (traceIn trace)
-  laid-size = l.lists.size ∙ sym (reqs-length trace)
+  pub laid_size : n ≡ count (trace_in trace)
+  laid_size = l.lists.size ∙ sym (reqs_length trace)
 
-  pub laid-few : n ≤ 1024
-  laid-few = omega (arith, laid-size, l.lists.within.requests)
+  pub laid_few : n ≤ 1024
+  laid_few = omega (arith, laid_size, l.lists.within.requests)
 
   -- other flags and worths that fit
-  pub laid-again : (k' : ℕ) (worth' flags' : List ℕ) → k' ≤ 64 → Fits (traceIn trace) k' flags' worth' → length worth' ≡ 2050 → length flags' ≡ 1024
+  pub laid_again : (k' : ℕ) (worth' flags' : List ℕ) → k' ≤ 64 → Fits (trace_in trace) k' flags' worth' → length worth' ≡ 2050 → length flags' ≡ 1024
       → Laid trace n fill k' worth' flags' from charges
-  laid-again k' worth' flags' few f a b = record {
+  laid_again k' worth' flags' few f a b = record {
     lists = l.lists;
     fits = f;
     few = few;
-    worth-long = a;
+    worth_long = a;
     flags_long = b;
   }
 
   -- once the first point is worth no more than the last, there may be any more slots
   pub laid_more : (w : ℕ) → k ≤ w → w ≤ 64 → get_or worth 0 0 ≡ get_or worth n 0 → Laid trace n fill w worth flags from charges
   laid_more w m few e =
-      laid-again w worth flags few
+      laid_again w worth flags few
       (record {
-        sound = more-slots (traceIn trace) k w (flagsIn flags) (pointsIn worth) (requestsIn (count (traceIn trace)) worth) l.fits.sound (rw laid-size at e) m;
+        sound = more_slots (trace_in trace) k w (flags_in flags) (points_in worth) (requests_in (count (trace_in trace)) worth) l.fits.sound (rw laid_size at e) m;
         bounded = l.fits.bounded;
         values = l.fits.values;
       })
-      l.worth-long l.flags_long
+      l.worth_long l.flags_long
 
   -- with a slot or more the rents are within the limit
-  pub laid-cheap : 0 < k → Cheap n worth
-  laid-cheap z = record {
-    falls = λ g m. l.fits.sound.idle g (omega (arith, laid-size));
+  pub laid_cheap : 0 < k → Cheap n worth
+  laid_cheap z = record {
+    falls = λ g m. l.fits.sound.idle g (omega (arith, laid_size));
     limit = λ g m.
-        let i : g < count (traceIn trace) = omega (arith, laid-size) in
+        let i : g < count (trace_in trace) = omega (arith, laid_size) in
         omega (
           arith,
-          rents-limit (traceIn trace) k (flagsIn flags) (pointsIn worth) (requestsIn (count (traceIn trace)) worth) l.lists.within l.fits.sound z g i,
+          rents_limit (trace_in trace) k (flags_in flags) (points_in worth) (requests_in (count (trace_in trace)) worth) l.lists.within l.fits.sound z g i,
         );
   }
 
@@ -75,72 +75,72 @@ blank n i =
       | no y ↦ get_or-eq_default (replicate {A = ℕ} n 0) 0 {n = i} (omega (arith, length-replicate {A = ℕ} n 0))
     ]
 
-blank-flag : (flags : List ℕ) → ((t : ℕ) → get_or flags t 0 ≡ 0) → (t : ℕ) → noFlags t ≡ flagsIn flags t
-blank-flag flags b zero = refl
-blank-flag flags b (suc t) = rw (b t)
+blank_flag : (flags : List ℕ) → ((t : ℕ) → get_or flags t 0 ≡ 0) → (t : ℕ) → no_flags t ≡ flags_in flags t
+blank_flag flags b zero = refl
+blank_flag flags b (suc t) = rw (b t)
 
 module _ {trace from charges worth buffer : List ℕ} (r : Ready trace from charges worth buffer) where
   abbrev tr : Trace
-  tr = traceIn trace
+  tr = trace_in trace
 
   abbrev P : ℕ → ℕ
-  P = pointsIn worth
+  P = points_in worth
 
   abbrev Q : ℕ → ℕ
-  Q = requestsIn (count tr) worth
+  Q = requests_in (count tr) worth
 
-  ready-sound : SoundTrace trace
-  ready-sound = sound-trace trace r.sound
+  ready_sound : SoundTrace trace
+  ready_sound = sound_trace trace r.sound
 
-  pub ready-few : requestsAt trace ≤ 1024
-  ready-few = ready-sound.requests
+  pub ready_few : requests_at trace ≤ 1024
+  ready_few = ready_sound.requests
 
-  pub ready-slots : slotsAt trace ≤ 64
-  ready-slots = ready-sound.slots
+  pub ready_slots : slots_at trace ≤ 64
+  ready_slots = ready_sound.slots
 
-  pub ready-fill : fillAt trace ≤ 1000000
-  ready-fill = ready-sound.fill
+  pub ready_fill : fill_at trace ≤ 1000000
+  ready_fill = ready_sound.fill
 
-  ready-lists : Lists trace (requestsAt trace) (fillAt trace) from charges
-  ready-lists = record {
-    within = trace-within trace ready-sound;
+  ready_lists : Lists trace (requests_at trace) (fill_at trace) from charges
+  ready_lists = record {
+    within = trace_within trace ready_sound;
     size = refl;
     price = refl;
-    next = nextsOf trace;
-    prev = prevsOf trace;
-    nexts = λ t l. next-at trace (replicate 1024 0) t r.sound l;
-    prevs = λ t l. prev-at trace (replicate 1024 0) t r.sound l;
-    sources = λ u kind h o. source-at r.lists.sources ready-few u kind h o;
-    charged = λ t l. charge-at r.lists.charged ready-few t l;
+    next = nexts_of trace;
+    prev = prevs_of trace;
+    nexts = λ t l. next_at trace (replicate 1024 0) t r.sound l;
+    prevs = λ t l. prev_at trace (replicate 1024 0) t r.sound l;
+    sources = λ u kind h o. source_at r.lists.sources ready_few u kind h o;
+    charged = λ t l. charge_stored r.lists.charged ready_few t l;
   }
 
   started : Start tr P Q
-  started = started-start trace (nextsOf trace) r.worth₀ worth ready-sound
-      (λ t l. next-at trace (replicate 1024 0) t r.sound (omega (arith, reqs-length trace))) r.lists.started
+  started = started_start trace (nexts_of trace) r.worth₀ worth ready_sound
+      (λ t l. next_at trace (replicate 1024 0) t r.sound (omega (arith, reqs_length trace))) r.lists.started
 
   -- the start lays no slot
-  start-laid : Laid trace (requestsAt trace) (fillAt trace) 0 worth (replicate 1024 0) from charges
-  start-laid = record {
-    lists = ready-lists;
+  start_laid : Laid trace (requests_at trace) (fill_at trace) 0 worth (replicate 1024 0) from charges
+  start_laid = record {
+    lists = ready_lists;
     fits = record {
-      sound = sound-same tr 0 noFlags (flagsIn (replicate 1024 0)) P Q (blank-flag (replicate 1024 0) (blank 1024)) (start-sound tr P Q started);
-      bounded = start-bounded tr P Q started;
+      sound = sound_same tr 0 no_flags (flags_in (replicate 1024 0)) P Q (blank_flag (replicate 1024 0) (blank 1024)) (start_sound tr P Q started);
+      bounded = start_bounded tr P Q started;
       values = λ t. omega (arith, blank 1024 t);
     };
     few = omega arith;
-    worth-long = r.worth-long;
+    worth_long = r.worth_long;
     flags_long = length-replicate {A = ℕ} 1024 0;
   }
 
   -- its rents are within the limit
-  start-cheap : Cheap (requestsAt trace) worth
-  start-cheap = record {
-    falls = λ g m. (start-sound tr P Q started).idle g (omega (arith, reqs-length trace));
+  start_cheap : Cheap (requests_at trace) worth
+  start_cheap = record {
+    falls = λ g m. (start_sound tr P Q started).idle g (omega (arith, reqs_length trace));
     limit = λ g m.
-        let i : g < count tr = omega (arith, reqs-length trace) in
-        omega (arith, start-rents-limit tr P Q ready-lists.within started g i);
+        let i : g < count tr = omega (arith, reqs_length trace) in
+        omega (arith, start_rents_limit tr P Q ready_lists.within started g i);
   }
 
-  pub ready-laid : (n fill : ℕ) → n ≡ requestsAt trace → fill ≡ fillAt trace
+  pub ready_laid : (n fill : ℕ) → n ≡ requests_at trace → fill ≡ fill_at trace
       → Laid trace n fill 0 worth (replicate 1024 0) from charges × Cheap n worth
-  ready-laid n fill a b = rw (a, b) (start-laid, start-cheap)
+  ready_laid n fill a b = rw (a, b) (start_laid, start_cheap)

@@ -8,59 +8,59 @@ use borrow.Author.Tests.{lt-ltb, le-ltb}
 use lib.ListN.{get_or}
 use Rattle.frontier.specs.Frontier.{far, Desk, desk, offered}
 use Rattle.frontier.proofs.Desks.{offered-stay}
-use Rattle.steps.specs.Search.{waysBy, Graph}
-use Rattle.steps.proofs.SearchOffer.{Spreads, spreads-stay, spreads-offer}
+use Rattle.steps.specs.Search.{ways_by, Graph}
+use Rattle.steps.proofs.SearchOffer.{Spreads, spreads_stay, spreads_offer}
 
 module _ (from len : List ℕ) (u kind : ℕ) where
-  pub way-open : get_or len (3 * u + kind) 0 < far
-      → ((waysBy from len u kind).from ≡ get_or from (3 * u + kind) 0) × ((waysBy from len u kind).len ≡ get_or len (3 * u + kind) 0)
-  unfolding waysBy
-  way-open l = rw (lt-ltb (get_or len (3 * u + kind) 0) far l) (refl, refl)
+  pub way_open : get_or len (3 * u + kind) 0 < far
+      → ((ways_by from len u kind).from ≡ get_or from (3 * u + kind) 0) × ((ways_by from len u kind).len ≡ get_or len (3 * u + kind) 0)
+  unfolding ways_by
+  way_open l = rw (lt-ltb (get_or len (3 * u + kind) 0) far l) (refl, refl)
 
-  pub way-closed : far ≤ get_or len (3 * u + kind) 0 → ((waysBy from len u kind).from ≡ u) × ((waysBy from len u kind).len ≡ 0)
-  unfolding waysBy
-  way-closed l = rw (le-ltb (get_or len (3 * u + kind) 0) far l) (refl, refl)
+  pub way_closed : far ≤ get_or len (3 * u + kind) 0 → ((ways_by from len u kind).from ≡ u) × ((ways_by from len u kind).len ≡ 0)
+  unfolding ways_by
+  way_closed l = rw (le-ltb (get_or len (3 * u + kind) 0) far l) (refl, refl)
 
 module _ {n : ℕ} {from len : List ℕ} (G : Graph n from len) {dist hop stack list : List ℕ} {top waiting current left u s : ℕ}
-    (R : Spreads (suc (2 * n)) n (waysBy from len) dist hop stack list top waiting current left u s) (small : s < 3) where
+    (R : Spreads (suc (2 * n)) n (ways_by from len) dist hop stack list top waiting current left u s) (small : s < 3) where
   abbrev v : ℕ
   v = get_or from (3 * u + s) 0
 
   abbrev size : ℕ
   size = get_or len (3 * u + s) 0
 
-  v-inside : v < suc (2 * n)
-  v-inside = G.inside u s R.spreading.within small
+  v_inside : v < suc (2 * n)
+  v_inside = G.inside u s R.spreading.within small
 
   v<2050 : v < 2050
-  v<2050 = omega (arith, v-inside, G.few)
+  v<2050 = omega (arith, v_inside, G.few)
 
   -- a closed way brings no node nearer
-  beyond-far : far ≤ size → get_or dist v 0 ≤ current + size
-  beyond-far l = omega (arith, R.spreading.kept.near v)
+  beyond_far : far ≤ size → get_or dist v 0 ≤ current + size
+  beyond_far l = omega (arith, R.spreading.kept.near v)
 
   abbrev before : Desk
   before = desk dist hop stack list top waiting
 
   abbrev SpreadsOn : Desk → Type 0
-  SpreadsOn d = Spreads (suc (2 * n)) n (waysBy from len) d.dist d.hop d.stack d.list d.top d.waiting current left u (s + 1)
+  SpreadsOn d = Spreads (suc (2 * n)) n (ways_by from len) d.dist d.hop d.stack d.list d.top d.waiting current left u (s + 1)
 
   -- a closed way
-  spreads-closed : far ≤ size → SpreadsOn (offered before u v (current + size) current)
-  spreads-closed l =
-      let w = way-closed from len u s l in
-      subst SpreadsOn (sym (offered-stay before u v (current + size) current v<2050 (beyond-far l)))
-      (spreads-stay R small w.0 w.1 R.spreading.within (omega (arith, R.spreading.stood)))
+  spreads_closed : far ≤ size → SpreadsOn (offered before u v (current + size) current)
+  spreads_closed l =
+      let w = way_closed from len u s l in
+      subst SpreadsOn (sym (offered-stay before u v (current + size) current v<2050 (beyond_far l)))
+      (spreads_stay R small w.0 w.1 R.spreading.within (omega (arith, R.spreading.stood)))
 
   whatever : SpreadsOn (offered before u v (current + size) current)
   whatever =
       elim (dec_lt size far) [
-        | yes l ↦ let w = way-open from len u s l in spreads-offer R small w.0 w.1 v-inside
-        | no f ↦ spreads-closed (omega arith)
+        | yes l ↦ let w = way_open from len u s l in spreads_offer R small w.0 w.1 v_inside
+        | no f ↦ spreads_closed (omega arith)
       ]
 
   -- after the offer to the node that it comes from
-  pub spreads-next : {l : ℕ} → l ≡ size → {dist' hop' stack' list' : List ℕ} {top' waiting' : ℕ}
+  pub spreads_next : {l : ℕ} → l ≡ size → {dist' hop' stack' list' : List ℕ} {top' waiting' : ℕ}
       → desk dist' hop' stack' list' top' waiting' ≡ offered before u v (current + l) current
-      → Spreads (suc (2 * n)) n (waysBy from len) dist' hop' stack' list' top' waiting' current left u (s + 1)
-  spreads-next e q = subst SpreadsOn (sym q) (rw e whatever)
+      → Spreads (suc (2 * n)) n (ways_by from len) dist' hop' stack' list' top' waiting' current left u (s + 1)
+  spreads_next e q = subst SpreadsOn (sym q) (rw e whatever)

@@ -1,12 +1,12 @@
 -- A search for shortest distances back from a sink over the ways into each node. Assumes nothing.
 use Rattle.std.specs.Prelude.{◌≡◌, cond, ◌⊎◌, List, [], ◌∷◌, ℕ, suc, ◌+◌, ◌*◌, ◌-◌, ◌≤◌, ◌<◌, min, eqb, ltb, length, get_or}
 use Rattle.frontier.specs.Frontier.{far}
-use Rattle.steps.specs.Ways.{Way, noWay}
+use Rattle.steps.specs.Ways.{Way, no_way}
 
 -- the ways by the lists of where they come from and of their lengths: one that is as long as far is closed, and counts as none
-unfoldable pub waysBy : (from len : List ℕ) → (u kind : ℕ) → Way
-waysBy from len u kind =
-    cond (ltb (get_or len (3 * u + kind) 0) far) (record { from = get_or from (3 * u + kind) 0; len = get_or len (3 * u + kind) 0 }) (noWay u)
+unfoldable pub ways_by : (from len : List ℕ) → (u kind : ℕ) → Way
+ways_by from len u kind =
+    cond (ltb (get_or len (3 * u + kind) 0) far) (record { from = get_or from (3 * u + kind) 0; len = get_or len (3 * u + kind) 0 }) (no_way u)
 
 -- a rank that says not reached yet
 abbrev pub unranked : ℕ
@@ -42,17 +42,17 @@ pub record Hop (ways : ℕ → ℕ → Way) (dist rank : List ℕ) (v u : ℕ) :
 -- only the kinds below s are offered
 pub record Kept (m sink : ℕ) (ways : ℕ → ℕ → Way) (dist hop rank stack : List ℕ) (top current turn u s : ℕ) : Type 0 where
   pub few : m ≤ 2050
-  pub dist-long : length dist ≡ 2050
-  pub hop-long : length hop ≡ 2050
-  pub rank-long : length rank ≡ 2050
-  pub stack-long : length stack ≡ 2050
+  pub dist_long : length dist ≡ 2050
+  pub hop_long : length hop ≡ 2050
+  pub rank_long : length rank ≡ 2050
+  pub stack_long : length stack ≡ 2050
   pub close : current < far
   pub near : (v : ℕ) → get_or dist v 0 ≤ far
   pub ranks : (v : ℕ) → Reached rank v → get_or rank v 0 < turn
   pub ranked : (v : ℕ) → get_or rank v 0 ≤ unranked
   pub counted : turn + times unranked rank ≡ 2050
   pub stacked : top ≤ turn
-  pub stack-in : (j : ℕ) → j < top → (get_or stack j 0 < m) × Reached rank (get_or stack j 0) × (get_or dist (get_or stack j 0) 0 ≡ current)
+  pub stack_in : (j : ℕ) → j < top → (get_or stack j 0 < m) × Reached rank (get_or stack j 0) × (get_or dist (get_or stack j 0) 0 ≡ current)
   pub inside : (v : ℕ) → v < m → Reached rank v → get_or dist v 0 ≤ current
   pub offered : (v kind : ℕ) → v < m → kind < 3 → Reached rank v → (v ≡ u → kind < s)
       → Stands stack 0 top v ⊎ (get_or dist (ways v kind).from 0 ≤ get_or dist v 0 + (ways v kind).len)
@@ -63,9 +63,9 @@ pub record Kept (m sink : ℕ) (ways : ℕ → ℕ → Way) (dist hop rank stack
 
 -- the first `waiting` places of the list hold different labelled nodes, every one among them that is not reached
 pub record Waits (m : ℕ) (dist rank list : List ℕ) (waiting : ℕ) : Type 0 where
-  pub list-long : length list ≡ 2050
+  pub list_long : length list ≡ 2050
   pub spare : waiting + times far dist ≤ 2050
-  pub list-in : (j : ℕ) → j < waiting → get_or list j 0 < m
+  pub list_in : (j : ℕ) → j < waiting → get_or list j 0 < m
   pub listed : (v : ℕ) → v < m → get_or rank v 0 ≡ unranked → get_or dist v 0 < far → Stands list 0 waiting v
   pub distinct : Apart list waiting
   pub labelled : (j : ℕ) → j < waiting → get_or dist (get_or list j 0) 0 < far
@@ -100,7 +100,7 @@ pub record Graph (n : ℕ) (from len : List ℕ) : Type 0 where
   pub few : n ≤ 1024
   pub inside : (u kind : ℕ) → u < suc (2 * n) → kind < 3 → get_or from (3 * u + kind) 0 < suc (2 * n)
   pub worth : ℕ → ℕ
-  pub chain : Chain (suc (2 * n)) n (waysBy from len) worth
+  pub chain : Chain (suc (2 * n)) n (ways_by from len) worth
 
 -- what a search that reached node 0 has found
 pub record Found (m sink : ℕ) (ways : ℕ → ℕ → Way) (dist hop rank : List ℕ) : Type 0 where
@@ -115,5 +115,5 @@ pub record Found (m sink : ℕ) (ways : ℕ → ℕ → Way) (dist hop rank : Li
 -- and it has found it in some order of the nodes, in which every hop goes back
 pub record Finds (m sink : ℕ) (ways : ℕ → ℕ → Way) (dist hop : List ℕ) : Type 0 where
   pub rank : List ℕ
-  pub hop-long : length hop ≡ 2050
+  pub hop_long : length hop ≡ 2050
   pub found : Found m sink ways dist hop rank

@@ -8,11 +8,11 @@ use mathlib.Core.List.{List, [], ◌∷◌}
 use Rattle.fields.specs.Bytes.{bytes_of}
 use Rattle.model.specs.Model.{Trace}
 use Rattle.model.specs.Numbers.{Within}
-use Rattle.model.specs.Plans.{requestAt}
+use Rattle.model.specs.Plans.{request_at}
 use Rattle.model.specs.Refusals.{passes}
-use Rattle.trace.specs.TraceFile.{traceTried, traceIn, traceBytes, SoundTrace}
-use Rattle.trace.proofs.Sound.{sound-trace}
-use Rattle.trace.proofs.ReadBack.{bytes-sound, bytes-read-back}
+use Rattle.trace.specs.TraceFile.{trace_tried, trace_in, trace_bytes, SoundTrace}
+use Rattle.trace.proofs.Sound.{sound_trace}
+use Rattle.trace.proofs.ReadBack.{bytes_sound, bytes_read_back}
 
 -- its requests and rules
 abbrev pub example : Trace
@@ -27,20 +27,20 @@ example =
     }
 
 -- its bytes, as the document has them
-abbrev pub exampleBytes : List ℕ
-exampleBytes =
+abbrev pub example_bytes : List ℕ
+example_bytes =
     0x43 ∷ 0x54 ∷ 0x52 ∷ 0x01 ∷ 0x00 ∷ 0x01 ∷ 0x03 ∷ 0x00 ∷ 0x02 ∷ 0x00 ∷ 0x00 ∷ 0x00
     ∷ 0x05 ∷ 0x00 ∷ 0x00 ∷ 0x00 ∷ 0x0A ∷ 0x00 ∷ 0x00 ∷ 0x00
     ∷ 0x05 ∷ 0x00 ∷ 0x01 ∷ 0x00 ∷ 0x07 ∷ 0x00 ∷ 0x00 ∷ 0x00
     ∷ 0x05 ∷ 0x00 ∷ 0x00 ∷ 0x00 ∷ 0x0A ∷ 0x00 ∷ 0x00 ∷ 0x00
     ∷ []
 
-pub example-bytes : traceBytes example ≡ exampleBytes
+pub example_bytes_lem : trace_bytes example ≡ example_bytes
 unfolding bytes_of
-example-bytes = refl
+example_bytes_lem = refl
 
-example-within : Within example
-example-within =
+example_within : Within example
+example_within =
     record {
       slots = omega arith;
       requests = omega arith;
@@ -48,17 +48,17 @@ example-within =
       costs = (omega arith, (omega arith, (omega arith, tt)));
     }
 
-example-items : (t : ℕ) → (requestAt example.reqs t).item ≤ 65535
-example-items zero = omega arith
-example-items (suc zero) = omega arith
-example-items (suc (suc zero)) = omega arith
-example-items (suc (suc (suc t))) = omega arith
+example_items : (t : ℕ) → (request_at example.reqs t).item ≤ 65535
+example_items zero = omega arith
+example_items (suc zero) = omega arith
+example_items (suc (suc zero)) = omega arith
+example_items (suc (suc (suc t))) = omega arith
 
-pub example-passes : traceTried exampleBytes ≡ passes
-example-passes = rw example-bytes at (bytes-sound example example-within example-items)
+pub example_passes : trace_tried example_bytes ≡ passes
+example_passes = rw example_bytes_lem at (bytes_sound example example_within example_items)
 
-pub example-read : traceIn exampleBytes ≡ example
-example-read = rw example-bytes at (bytes-read-back example example-within example-items)
+pub example_read : trace_in example_bytes ≡ example
+example_read = rw example_bytes_lem at (bytes_read_back example example_within example_items)
 
-pub example-sound : SoundTrace exampleBytes
-example-sound = sound-trace exampleBytes example-passes
+pub example_sound : SoundTrace example_bytes
+example_sound = sound_trace example_bytes example_passes

@@ -8,14 +8,14 @@ use mathlib.Core.List.{List}
 use lib.ListN.{length}
 use lib.Dec.{eqb, ltb}
 use borrow.Author.Tests.{ltb-false, eqb-true}
-use Rattle.model.specs.Plans.{requestAt}
+use Rattle.model.specs.Plans.{request_at}
 use Rattle.model.specs.Links.{listed}
-use Rattle.model.proofs.Links.{length-listed, getD-listed}
-use Rattle.model.specs.Numbers.{maxCost, CostsWithin, Within}
+use Rattle.model.proofs.Links.{length-listed, get_d_listed}
+use Rattle.model.specs.Numbers.{max_cost, CostsWithin, Within}
 use Rattle.model.specs.Refusals.{Tried, passes, row, Answer}
-use Rattle.model.proofs.Refusals.{row-passes}
-use Rattle.trace.specs.TraceFile.{requestsAt, kind_at, zeroAt, costAt, markedTrace, recordsTried, traceTried, requestIn, traceIn, SoundTrace}
-use Rattle.trace.proofs.Records.{record-by-record}
+use Rattle.model.proofs.Refusals.{row_passes}
+use Rattle.trace.specs.TraceFile.{requests_at, kind_at, zero_at, cost_at, marked_trace, records_tried, trace_tried, request_in, trace_in, SoundTrace}
+use Rattle.trace.proofs.Records.{record_by_record}
 use Rattle.trace.specs.Answers.{said}
 use Rattle.trace.specs.declared.Header.{Header}
 use Rattle.trace.specs.declared.Checked.{Checked}
@@ -34,32 +34,32 @@ held true h = refl
 held false h = absurd (let z : ◌≡◌ {A = ℕ} 0 1 = cc in omega arith)
 
 -- the k records from record t on have a kind of 0 or 1 and a cost within the limit
-pub records-sound : (k t : ℕ) (tr : List ℕ) → recordsTried k t tr ≡ passes → (s : ℕ) → t ≤ s → s < t + k → (kind_at tr s ≤ 1) × (costAt tr s ≤ maxCost)
-records-sound zero t tr h s l m = absurd (omega arith)
-records-sound (suc k) t tr h s l m =
+pub records_sound : (k t : ℕ) (tr : List ℕ) → records_tried k t tr ≡ passes → (s : ℕ) → t ≤ s → s < t + k → (kind_at tr s ≤ 1) × (cost_at tr s ≤ max_cost)
+records_sound zero t tr h s l m = absurd (omega arith)
+records_sound (suc k) t tr h s l m =
     let kind = ltb 1 (kind_at tr t) in
-    let zero = not (eqb (zeroAt tr t) 0) in
-    let cost = ltb maxCost (costAt tr t) in
-    let rest = recordsTried k (suc t) tr in
-    let seven = row-passes (kind || zero) 7 (suc t) (row cost 8 (suc t) rest) (sym (record-by-record k t tr) ∙ h) in
-    let eight = row-passes cost 8 (suc t) rest seven.1 in
+    let zero = not (eqb (zero_at tr t) 0) in
+    let cost = ltb max_cost (cost_at tr t) in
+    let rest = records_tried k (suc t) tr in
+    let seven = row_passes (kind || zero) 7 (suc t) (row cost 8 (suc t) rest) (sym (record_by_record k t tr) ∙ h) in
+    let eight = row_passes cost 8 (suc t) rest seven.1 in
     elim (dec_lt t s) [
-      | yes z ↦ records-sound k (suc t) tr eight.1 s z (omega arith)
+      | yes z ↦ records_sound k (suc t) tr eight.1 s z (omega arith)
       | no z ↦ let e : s ≡ t = omega arith in
           rw e (ltb-false _ _ (neither kind zero seven.0).0, ltb-false _ _ eight.0)
     ]
 
 -- a trace with none of refusals 1 to 8 is sound
-pub sound-trace : (tr : List ℕ) → traceTried tr ≡ passes → SoundTrace tr
-unfolding traceTried
-sound-trace tr h =
-    let one = row-passes (ltb (length tr) 12) 1 0 _ h in
-    let two = row-passes (not (markedTrace tr)) 2 0 _ one.1 in
-    let three = row-passes _ 3 0 _ two.1 in
-    let four = row-passes _ 4 0 _ three.1 in
-    let five = row-passes _ 5 0 _ four.1 in
-    let six = row-passes _ 6 0 _ five.1 in
-    let each = records-sound (requestsAt tr) 0 tr six.1 in
+pub sound_trace : (tr : List ℕ) → trace_tried tr ≡ passes → SoundTrace tr
+unfolding trace_tried
+sound_trace tr h =
+    let one = row_passes (ltb (length tr) 12) 1 0 _ h in
+    let two = row_passes (not (marked_trace tr)) 2 0 _ one.1 in
+    let three = row_passes _ 3 0 _ two.1 in
+    let four = row_passes _ 4 0 _ three.1 in
+    let five = row_passes _ 5 0 _ four.1 in
+    let six = row_passes _ 6 0 _ five.1 in
+    let each = records_sound (requests_at tr) 0 tr six.1 in
     record {
       slots = ltb-false _ _ three.0;
       requests = ltb-false _ _ four.0;
@@ -72,42 +72,42 @@ sound-trace tr h =
 -- ---- the requests
 
 -- a request for each record
-pub reqs-length : (tr : List ℕ) → length (traceIn tr).reqs ≡ requestsAt tr
-reqs-length tr = length-listed (requestIn tr) (requestsAt tr) 0
+pub reqs_length : (tr : List ℕ) → length (trace_in tr).reqs ≡ requests_at tr
+reqs_length tr = length-listed (request_in tr) (requests_at tr) 0
 
 -- and it is that of the record
-pub req_at : (tr : List ℕ) (t : ℕ) → t < requestsAt tr → requestAt (traceIn tr).reqs t ≡ requestIn tr t
+pub req_at : (tr : List ℕ) (t : ℕ) → t < requests_at tr → request_at (trace_in tr).reqs t ≡ request_in tr t
 req_at tr t h =
     let e : 0 + t ≡ t = omega arith in
-    getD-listed (requestIn tr) (requestsAt tr) 0 t _ h ∙ ap (requestIn tr) e
+    get_d_listed (request_in tr) (requests_at tr) 0 t _ h ∙ ap (request_in tr) e
 
 -- costs that hold record by record hold of the requests
-costs-listed : (tr : List ℕ) (k t : ℕ) → ((s : ℕ) → s < t + k → costAt tr s ≤ maxCost) → CostsWithin maxCost (listed (requestIn tr) k t)
-costs-listed tr zero t h = tt
-costs-listed tr (suc k) t h = (h t (omega arith), costs-listed tr k (suc t) (λ s l. h s (omega arith)))
+costs_listed : (tr : List ℕ) (k t : ℕ) → ((s : ℕ) → s < t + k → cost_at tr s ≤ max_cost) → CostsWithin max_cost (listed (request_in tr) k t)
+costs_listed tr zero t h = tt
+costs_listed tr (suc k) t h = (h t (omega arith), costs_listed tr k (suc t) (λ s l. h s (omega arith)))
 
 -- a sound trace keeps within the limits
-pub trace-within : (tr : List ℕ) → SoundTrace tr → Within (traceIn tr)
-trace-within tr s =
+pub trace_within : (tr : List ℕ) → SoundTrace tr → Within (trace_in tr)
+trace_within tr s =
     record {
       slots = s.slots;
-      requests = rw (reqs-length tr) s.requests;
+      requests = rw (reqs_length tr) s.requests;
       fill = s.fill;
-      costs = costs-listed tr (requestsAt tr) 0 (λ t l. s.costs t (omega arith));
+      costs = costs_listed tr (requests_at tr) 0 (λ t l. s.costs t (omega arith));
     }
 
 -- ---- one answer
 
 -- what a call's promise permits is one answer
-pub check-unique : (a b : Checked) (x : Answer Header) → said a ≡ x → said b ≡ x → a ≡ b
-check-unique (Sound h) (Sound g) x p q = cc
-check-unique (Sound h) (Refused r) x p q = absurd (let z : ◌≡◌ {A = ℕ} 0 1 = cc in omega arith)
-check-unique (Refused r) (Sound h) x p q = absurd (let z : ◌≡◌ {A = ℕ} 0 1 = cc in omega arith)
-check-unique (Refused r) (Refused s) x p q =
+pub check_unique : (a b : Checked) (x : Answer Header) → said a ≡ x → said b ≡ x → a ≡ b
+check_unique (Sound h) (Sound g) x p q = cc
+check_unique (Sound h) (Refused r) x p q = absurd (let z : ◌≡◌ {A = ℕ} 0 1 = cc in omega arith)
+check_unique (Refused r) (Sound h) x p q = absurd (let z : ◌≡◌ {A = ℕ} 0 1 = cc in omega arith)
+check_unique (Refused r) (Refused s) x p q =
     let n : r.number ≡ s.number = cc in
     let m : r.place ≡ s.place = cc in
     ap (λ (i : ℕ). Refused (record { number = i; place = r.place })) n ∙ ap (λ (i : ℕ). Refused (record { number = s.number; place = i })) m
 
 -- and so is a number that is to equal another
-pub number-unique : (a b x : ℕ) → a ≡ x → b ≡ x → a ≡ b
-number-unique a b x p q = p ∙ sym q
+pub number_unique : (a b x : ℕ) → a ≡ x → b ≡ x → a ≡ b
+number_unique a b x p q = p ∙ sym q

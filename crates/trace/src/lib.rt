@@ -1,8 +1,8 @@
 // Trace files: every byte slice is answered with the header, or with a refusal 1 to 8 and its place.
 // The readers are total: past the end bytes count as 0. It knows nothing of plans.
 ghost use Rattle.std.specs.Prelude.{◌≡◌, ◌<◌};
-ghost use Rattle.trace.specs.TraceFile.{slotsAt, requestsAt, fillAt, item_at, kind_at, costAt};
-ghost use Rattle.trace.specs.Answers.{said, checkOf};
+ghost use Rattle.trace.specs.TraceFile.{slots_at, requests_at, fill_at, item_at, kind_at, cost_at};
+ghost use Rattle.trace.specs.Answers.{said, check_of};
 
 use model::{Outcome, Refusal};
 
@@ -31,21 +31,21 @@ pub enum Checked {
 
 // w.
 pub fn slots(trace: &[u8]) -> usize
-    ensures { (result ≡ slotsAt trace.now) × (result < 256) }
+    ensures { (result ≡ slots_at trace.now) × (result < 256) }
 {
     fields::byte_at(trace, 5) as usize
 }
 
 // n.
 pub fn requests(trace: &[u8]) -> usize
-    ensures { (result ≡ requestsAt trace.now) × (result < 65536) }
+    ensures { (result ≡ requests_at trace.now) × (result < 65536) }
 {
     fields::u16_at(trace, 6) as usize
 }
 
 // F.
 pub fn fill(trace: &[u8]) -> u64
-    ensures { (result ≡ fillAt trace.now) × (result < 4294967296) }
+    ensures { (result ≡ fill_at trace.now) × (result < 4294967296) }
 {
     fields::u32_at(trace, 8)
 }
@@ -66,14 +66,14 @@ pub fn kind(trace: &[u8], t: usize) -> u64
 
 // Its cost.
 pub fn cost(trace: &[u8], t: usize) -> u64
-    ensures { (result ≡ costAt trace.now t) × (result < 4294967296) }
+    ensures { (result ≡ cost_at trace.now t) × (result < 4294967296) }
 {
     fields::u32_at(trace, rows::record_at(trace, t) + 4)
 }
 
 // The header, or the first of refusals 1 to 8 that holds.
 pub fn check(trace: &[u8]) -> Checked
-    ensures { said result ≡ checkOf trace.now }
+    ensures { said result ≡ check_of trace.now }
 {
     match rows::tried(trace) {
         Outcome::Refused(r) => Checked::Refused(r),

@@ -1,7 +1,7 @@
 // Where records lie, and rows 1 to 8 in their order.
 ghost use Rattle.std.specs.Prelude.{◌≡◌, ℕ, suc, ◌+◌, ◌<◌, ◌≤◌, min, length};
 ghost use Rattle.model.specs.Refusals.{said, next, refusal};
-ghost use Rattle.trace.specs.TraceFile.{recordAt, zeroAt, requestsAt, markedTrace, recordsTried, traceTried};
+ghost use Rattle.trace.specs.TraceFile.{record_at, zero_at, requests_at, marked_trace, records_tried, trace_tried};
 
 use model::{Cost, FillPrice, Outcome, Refusal, Requests, Slots};
 
@@ -18,7 +18,7 @@ impl Record {
 
 // Where record t begins, or the end where it begins past that.
 pub fn record_at(trace: &[u8], t: usize) -> usize
-    ensures { (min result (length trace.now) ≡ min (recordAt trace.now t) (length trace.now)) × (result ≤ length trace.now + 4) }
+    ensures { (min result (length trace.now) ≡ min (record_at trace.now t) (length trace.now)) × (result ≤ length trace.now + 4) }
 {
     if trace.len() / Record::SIZE <= t {
         trace.len()
@@ -29,14 +29,14 @@ pub fn record_at(trace: &[u8], t: usize) -> usize
 
 // The zero byte of record t.
 pub fn zero(trace: &[u8], t: usize) -> u64
-    ensures { result ≡ zeroAt trace.now t }
+    ensures { result ≡ zero_at trace.now t }
 {
     fields::byte_at(trace, record_at(trace, t) + 3)
 }
 
 // Whether the mark and the version are right.
 pub fn marked(trace: &[u8]) -> bool
-    ensures { result ≡ markedTrace trace.now }
+    ensures { result ≡ marked_trace trace.now }
 {
     if fields::byte_at(trace, 0) != b'C' as u64 {
         return false;
@@ -52,7 +52,7 @@ pub fn marked(trace: &[u8]) -> bool
 
 // Rows 1 to 6.
 pub fn head(trace: &[u8]) -> Outcome
-    ensures { next (said result) (recordsTried (requestsAt trace.now) 0 trace.now) ≡ traceTried trace.now }
+    ensures { next (said result) (records_tried (requests_at trace.now) 0 trace.now) ≡ trace_tried trace.now }
 {
     let w = crate::slots(trace);
     let n = crate::requests(trace);
@@ -81,7 +81,7 @@ pub fn head(trace: &[u8]) -> Outcome
 // Rows 7 and 8 of record t.
 pub fn one(trace: &[u8], t: usize) -> Outcome
     requires { t < 65536 }
-    ensures { (k : ℕ) → next (said result) (recordsTried k (suc t) trace.now) ≡ recordsTried (suc k) t trace.now }
+    ensures { (k : ℕ) → next (said result) (records_tried k (suc t) trace.now) ≡ records_tried (suc k) t trace.now }
 {
     if 1 < crate::kind(trace, t) {
         return refused(7, t as u64 + 1);
@@ -97,7 +97,7 @@ pub fn one(trace: &[u8], t: usize) -> Outcome
 
 // Rows 7 and 8, record by record.
 pub fn records(trace: &[u8]) -> Outcome
-    ensures { said result ≡ recordsTried (requestsAt trace.now) 0 trace.now }
+    ensures { said result ≡ records_tried (requests_at trace.now) 0 trace.now }
 {
     let n = crate::requests(trace);
     let mut t: usize = 0;
@@ -112,7 +112,7 @@ pub fn records(trace: &[u8]) -> Outcome
 
 // Rows 1 to 8.
 pub fn tried(trace: &[u8]) -> Outcome
-    ensures { said result ≡ traceTried trace.now }
+    ensures { said result ≡ trace_tried trace.now }
 {
     match head(trace) {
         Outcome::Refused(r) => Outcome::Refused(r),

@@ -6,7 +6,7 @@ use mathlib.Core.List.{List, [], ◌∷◌, ◌++◌, append_assoc}
 use lib.ListN.{length, get_or, set, drop, length-set}
 use lib.Seq.{drop-cons, set_comm, set_at}
 use Rattle.ways.specs.Promise.{rows, listed}
-use Rattle.ways.specs.Parts.{put_at, putRows, putBoth}
+use Rattle.ways.specs.Parts.{put_at, put_rows, put_both}
 
 -- ---- lists of rows
 
@@ -61,8 +61,8 @@ listed_at f (suc k) t (suc j) q h =
     rw e (listed_at f k (suc t) j q (omega arith))
 
 -- one request more is stored
-pub listed-step : (f : ℕ → ℕ) (t : ℕ) (l : List ℕ) → t < length l → set (listed f t 0 ++ drop t l) t (f t) ≡ listed f (suc t) 0 ++ drop (suc t) l
-listed-step f t l h =
+pub listed_step : (f : ℕ → ℕ) (t : ℕ) (l : List ℕ) → t < length l → set (listed f t 0 ++ drop t l) t (f t) ≡ listed f (suc t) 0 ++ drop (suc t) l
+listed_step f t l h =
     let z : 0 + t ≡ t = omega arith in
     let m : listed f (suc t) 0 ≡ listed f t 0 ++ (f t ∷ []) = rw z at (listed_more f t 0) in
     ap (λ (q : List ℕ). set (listed f t 0 ++ q) t (f t)) (drop-cons l t 0 h)
@@ -74,29 +74,29 @@ listed-step f t l h =
 pub length-put : (l : List ℕ) (u a b c : ℕ) → length (put_at l u a b c) ≡ length l
 length-put l u a b c = simp length-set
 
-pub length-putRows : (f : ℕ → ℕ → ℕ) (v k : ℕ) (l : List ℕ) → length (putRows f v k l) ≡ length l
-unfolding putRows
-length-putRows f v zero l = refl
-length-putRows f v (suc k) l = length-put (putRows f v k l) (v + k) (f k 0) (f k 1) (f k 2) ∙ length-putRows f v k l
+pub length-put_rows : (f : ℕ → ℕ → ℕ) (v k : ℕ) (l : List ℕ) → length (put_rows f v k l) ≡ length l
+unfolding put_rows
+length-put_rows f v zero l = refl
+length-put_rows f v (suc k) l = length-put (put_rows f v k l) (v + k) (f k 0) (f k 1) (f k 2) ∙ length-put_rows f v k l
 
 -- a place past the first of two lists
-set-add : (p q : List ℕ) (i a : ℕ) → set (p ++ q) (length p + i) a ≡ p ++ set q i a
-set-add [] q i a = let e : 0 + i ≡ i = omega arith in rw e
-set-add (x ∷ p) q i a =
+set_add : (p q : List ℕ) (i a : ℕ) → set (p ++ q) (length p + i) a ≡ p ++ set q i a
+set_add [] q i a = let e : 0 + i ≡ i = omega arith in rw e
+set_add (x ∷ p) q i a =
     let e : suc (length p) + i ≡ suc (length p + i) = omega arith in
-    rw e (ap (λ (l : List ℕ). x ∷ l) (set-add p q i a))
+    rw e (ap (λ (l : List ℕ). x ∷ l) (set_add p q i a))
 
 -- three places past it
-set-three : (p q : List ℕ) (x y z a b c i₀ i₁ i₂ : ℕ) → i₀ ≡ length p + 0 → i₁ ≡ length p + 1 → i₂ ≡ length p + 2
+set_three : (p q : List ℕ) (x y z a b c i₀ i₁ i₂ : ℕ) → i₀ ≡ length p + 0 → i₁ ≡ length p + 1 → i₂ ≡ length p + 2
     → set (set (set (p ++ x ∷ y ∷ z ∷ q) i₀ a) i₁ b) i₂ c ≡ p ++ a ∷ b ∷ c ∷ q
-set-three p q x y z a b c i₀ i₁ i₂ e₀ e₁ e₂ =
-    rw (e₀, e₁, e₂, set-add p (x ∷ y ∷ z ∷ q) 0 a, set-add p (a ∷ y ∷ z ∷ q) 1 b, set-add p (a ∷ b ∷ z ∷ q) 2 c)
+set_three p q x y z a b c i₀ i₁ i₂ e₀ e₁ e₂ =
+    rw (e₀, e₁, e₂, set_add p (x ∷ y ∷ z ∷ q) 0 a, set_add p (a ∷ y ∷ z ∷ q) 1 b, set_add p (a ∷ b ∷ z ∷ q) 2 c)
 
 -- the rows laid so far stand in front
-pub rows-laid : (f : ℕ → ℕ → ℕ) (k : ℕ) (l : List ℕ) → 3 * k ≤ length l → putRows f 0 k l ≡ rows f k 0 ++ drop (3 * k) l
-unfolding putRows rows
-rows-laid f zero l h = refl
-rows-laid f (suc k) l h =
+pub rows_laid : (f : ℕ → ℕ → ℕ) (k : ℕ) (l : List ℕ) → 3 * k ≤ length l → put_rows f 0 k l ≡ rows f k 0 ++ drop (3 * k) l
+unfolding put_rows rows
+rows_laid f zero l h = refl
+rows_laid f (suc k) l h =
     let z : 0 + k ≡ k = omega arith in
     let x = get_or l (3 * k) 0 in
     let y = get_or l (suc (3 * k)) 0 in
@@ -112,67 +112,67 @@ rows-laid f (suc k) l h =
     let b = f k 1 in
     let c = f k 2 in
     let s : put_at (p ++ x ∷ y ∷ w ∷ q) k a b c ≡ p ++ a ∷ b ∷ c ∷ q =
-    set-three p q x y w a b c (3 * k) (3 * k + 1) (3 * k + 2) (omega arith) (omega arith) (omega arith) in
+    set_three p q x y w a b c (3 * k) (3 * k + 1) (3 * k + 2) (omega arith) (omega arith) (omega arith) in
     let m : rows f (suc k) 0 ≡ p ++ (a ∷ b ∷ c ∷ []) = rw z at (rows_more f k 0) in
-    ap (λ (i : ℕ). put_at (putRows f 0 k l) i a b c) z
-    ∙ ap (λ (m : List ℕ). put_at m k a b c) (rows-laid f k l (omega arith) ∙ ap (λ (m : List ℕ). p ++ m) d)
+    ap (λ (i : ℕ). put_at (put_rows f 0 k l) i a b c) z
+    ∙ ap (λ (m : List ℕ). put_at m k a b c) (rows_laid f k l (omega arith) ∙ ap (λ (m : List ℕ). p ++ m) d)
     ∙ s
     ∙ sym (ap (λ (m : List ℕ). m ++ drop (3 * suc k) l) m
     ∙ append_assoc p (a ∷ b ∷ c ∷ []) (drop (3 * suc k) l)
     ∙ ap (λ (i : ℕ). p ++ a ∷ b ∷ c ∷ drop i l) t)
 
 -- two functions that say the same of what is stored
-pub putRows-same : (f g : ℕ → ℕ → ℕ) (v k : ℕ) (l : List ℕ) → ((j kind : ℕ) → j < k → f j kind ≡ g j kind) → putRows f v k l ≡ putRows g v k l
-unfolding putRows
-putRows-same f g v zero l h = refl
-putRows-same f g v (suc k) l h =
-    rw (h k 0 (omega arith), h k 1 (omega arith), h k 2 (omega arith), putRows-same f g v k l (λ j kind m. h j kind (omega arith)))
+pub put_rows-same : (f g : ℕ → ℕ → ℕ) (v k : ℕ) (l : List ℕ) → ((j kind : ℕ) → j < k → f j kind ≡ g j kind) → put_rows f v k l ≡ put_rows g v k l
+unfolding put_rows
+put_rows-same f g v zero l h = refl
+put_rows-same f g v (suc k) l h =
+    rw (h k 0 (omega arith), h k 1 (omega arith), h k 2 (omega arith), put_rows-same f g v k l (λ j kind m. h j kind (omega arith)))
 
 -- rows stored past the first v nodes
-pub putRows-join : (f g : ℕ → ℕ → ℕ) (v k : ℕ) (l : List ℕ) → ((j kind : ℕ) → j < k → g j kind ≡ f (v + j) kind)
-    → putRows g v k (putRows f 0 v l) ≡ putRows f 0 (v + k) l
-unfolding putRows
-putRows-join f g v zero l h = let e : v + 0 ≡ v = omega arith in rw e
-putRows-join f g v (suc k) l h =
+pub put_rows-join : (f g : ℕ → ℕ → ℕ) (v k : ℕ) (l : List ℕ) → ((j kind : ℕ) → j < k → g j kind ≡ f (v + j) kind)
+    → put_rows g v k (put_rows f 0 v l) ≡ put_rows f 0 (v + k) l
+unfolding put_rows
+put_rows-join f g v zero l h = let e : v + 0 ≡ v = omega arith in rw e
+put_rows-join f g v (suc k) l h =
     let e : v + suc k ≡ suc (v + k) = omega arith in
     let z : 0 + (v + k) ≡ v + k = omega arith in
-    rw (e, z, h k 0 (omega arith), h k 1 (omega arith), h k 2 (omega arith), putRows-join f g v k l (λ j kind m. h j kind (omega arith)))
+    rw (e, z, h k 0 (omega arith), h k 1 (omega arith), h k 2 (omega arith), put_rows-join f g v k l (λ j kind m. h j kind (omega arith)))
 
 -- ---- points and requests by turns
 
 -- one number stored before or after three others
-set-down : (l : List ℕ) (u a b c i x : ℕ) → (3 * u ≡ i → ⊥) → (3 * u + 1 ≡ i → ⊥) → (3 * u + 2 ≡ i → ⊥)
+set_down : (l : List ℕ) (u a b c i x : ℕ) → (3 * u ≡ i → ⊥) → (3 * u + 1 ≡ i → ⊥) → (3 * u + 2 ≡ i → ⊥)
     → set (put_at l u a b c) i x ≡ put_at (set l i x) u a b c
-set-down l u a b c i x p q r =
+set_down l u a b c i x p q r =
     set_comm (set (set l (3 * u) a) (3 * u + 1) b) (3 * u + 2) i c x r
     ∙ ap (λ (m : List ℕ). set m (3 * u + 2) c) (set_comm (set l (3 * u) a) (3 * u + 1) i b x q)
     ∙ ap (λ (m : List ℕ). set (set m (3 * u + 1) b) (3 * u + 2) c) (set_comm l (3 * u) i a x p)
 
 -- two nodes in either order
-put-swap : (l : List ℕ) (u a b c w x y z : ℕ) → w < u → put_at (put_at l u a b c) w x y z ≡ put_at (put_at l w x y z) u a b c
-put-swap l u a b c w x y z h =
+put_swap : (l : List ℕ) (u a b c w x y z : ℕ) → w < u → put_at (put_at l u a b c) w x y z ≡ put_at (put_at l w x y z) u a b c
+put_swap l u a b c w x y z h =
     ap (λ (m : List ℕ). set (set m (3 * w + 1) y) (3 * w + 2) z)
-    (set-down l u a b c (3 * w) x (λ e. omega (arith, e, h)) (λ e. omega (arith, e, h)) (λ e. omega (arith, e, h)))
+    (set_down l u a b c (3 * w) x (λ e. omega (arith, e, h)) (λ e. omega (arith, e, h)) (λ e. omega (arith, e, h)))
     ∙ ap (λ (m : List ℕ). set m (3 * w + 2) z)
-    (set-down (set l (3 * w) x) u a b c (3 * w + 1) y (λ e. omega (arith, e, h)) (λ e. omega (arith, e, h)) (λ e. omega (arith, e, h)))
-    ∙ set-down (set (set l (3 * w) x) (3 * w + 1) y) u a b c (3 * w + 2) z (λ e. omega (arith, e, h)) (λ e. omega (arith, e, h))
+    (set_down (set l (3 * w) x) u a b c (3 * w + 1) y (λ e. omega (arith, e, h)) (λ e. omega (arith, e, h)) (λ e. omega (arith, e, h)))
+    ∙ set_down (set (set l (3 * w) x) (3 * w + 1) y) u a b c (3 * w + 2) z (λ e. omega (arith, e, h)) (λ e. omega (arith, e, h))
     (λ e. omega (arith, e, h))
 
 -- a node before rows that are stored
-put-over : (f : ℕ → ℕ → ℕ) (v k : ℕ) (l : List ℕ) (u a b c : ℕ) → u < v → put_at (putRows f v k l) u a b c ≡ putRows f v k (put_at l u a b c)
-unfolding putRows
-put-over f v zero l u a b c h = refl
-put-over f v (suc k) l u a b c h =
-    put-swap (putRows f v k l) (v + k) (f k 0) (f k 1) (f k 2) u a b c (omega arith)
-    ∙ ap (λ (m : List ℕ). put_at m (v + k) (f k 0) (f k 1) (f k 2)) (put-over f v k l u a b c h)
+put_over : (f : ℕ → ℕ → ℕ) (v k : ℕ) (l : List ℕ) (u a b c : ℕ) → u < v → put_at (put_rows f v k l) u a b c ≡ put_rows f v k (put_at l u a b c)
+unfolding put_rows
+put_over f v zero l u a b c h = refl
+put_over f v (suc k) l u a b c h =
+    put_swap (put_rows f v k l) (v + k) (f k 0) (f k 1) (f k 2) u a b c (omega arith)
+    ∙ ap (λ (m : List ℕ). put_at m (v + k) (f k 0) (f k 1) (f k 2)) (put_over f v k l u a b c h)
 
 -- one point more
-point-more : (p r : ℕ → ℕ → ℕ) (n g t : ℕ) (l : List ℕ) → g ≤ n → put_at (putBoth p r n g t l) g (p g 0) (p g 1) (p g 2) ≡ putBoth p r n (suc g) t l
-unfolding putRows
-point-more p r n g t l h =
+point_more : (p r : ℕ → ℕ → ℕ) (n g t : ℕ) (l : List ℕ) → g ≤ n → put_at (put_both p r n g t l) g (p g 0) (p g 1) (p g 2) ≡ put_both p r n (suc g) t l
+unfolding put_rows
+point_more p r n g t l h =
     let z : 0 + g ≡ g = omega arith in
-    put-over r (n + 1) t (putRows p 0 g l) g (p g 0) (p g 1) (p g 2) (omega arith)
-    ∙ sym (ap (λ (i : ℕ). putRows r (n + 1) t (put_at (putRows p 0 g l) i (p g 0) (p g 1) (p g 2))) z)
+    put_over r (n + 1) t (put_rows p 0 g l) g (p g 0) (p g 1) (p g 2) (omega arith)
+    ∙ sym (ap (λ (i : ℕ). put_rows r (n + 1) t (put_at (put_rows p 0 g l) i (p g 0) (p g 1) (p g 2))) z)
 
 -- the numbers of a node, as a function says them
 pub record Says (f : ℕ → ℕ → ℕ) (u a b c : ℕ) : Type 0 where
@@ -183,51 +183,51 @@ pub record Says (f : ℕ → ℕ → ℕ) (u a b c : ℕ) : Type 0 where
 -- t points and t requests are stored
 pub record Laying (p r : ℕ → ℕ → ℕ) (n : ℕ) (old l : List ℕ) (t : ℕ) : Type 0 where
   pub upto : t ≤ n
-  pub laid : l ≡ putBoth p r n t t old
+  pub laid : l ≡ put_both p r n t t old
   pub long : length l ≡ 6150
 
 module _ (p r : ℕ → ℕ → ℕ) (n : ℕ) (old : List ℕ) where
-  pub laying-start : length old ≡ 6150 → Laying p r n old old 0
-  unfolding putRows
-  laying-start h = record { upto = omega arith; laid = refl; long = h }
+  pub laying_start : length old ≡ 6150 → Laying p r n old old 0
+  unfolding put_rows
+  laying_start h = record { upto = omega arith; laid = refl; long = h }
 
-  put-point : (l l' : List ℕ) (g t a b c : ℕ) → g ≤ n → l ≡ putBoth p r n g t old → Says p g a b c → l' ≡ put_at l g a b c
-      → l' ≡ putBoth p r n (suc g) t old
-  put-point l l' g t a b c h e s q = q ∙ rw (s.first, s.second, s.third, e) (point-more p r n g t old h)
+  put_point : (l l' : List ℕ) (g t a b c : ℕ) → g ≤ n → l ≡ put_both p r n g t old → Says p g a b c → l' ≡ put_at l g a b c
+      → l' ≡ put_both p r n (suc g) t old
+  put_point l l' g t a b c h e s q = q ∙ rw (s.first, s.second, s.third, e) (point_more p r n g t old h)
 
-  put-request : (l l' : List ℕ) (g t a b c : ℕ) → l ≡ putBoth p r n g t old → Says r t a b c → l' ≡ put_at l (n + 1 + t) a b c
-      → l' ≡ putBoth p r n g (suc t) old
-  unfolding putRows
-  put-request l l' g t a b c e s q = q ∙ rw (s.first, s.second, s.third, e)
+  put_request : (l l' : List ℕ) (g t a b c : ℕ) → l ≡ put_both p r n g t old → Says r t a b c → l' ≡ put_at l (n + 1 + t) a b c
+      → l' ≡ put_both p r n g (suc t) old
+  unfolding put_rows
+  put_request l l' g t a b c e s q = q ∙ rw (s.first, s.second, s.third, e)
 
-  pub laying-turn : (l l₁ l₂ : List ℕ) (t a b c x y z : ℕ) → Laying p r n old l t → t < n → Says p t a b c → Says r t x y z
+  pub laying_turn : (l l₁ l₂ : List ℕ) (t a b c x y z : ℕ) → Laying p r n old l t → t < n → Says p t a b c → Says r t x y z
       → l₁ ≡ put_at l t a b c → l₂ ≡ put_at l₁ (n + 1 + t) x y z → Laying p r n old l₂ (t + 1)
-  laying-turn l l₁ l₂ t a b c x y z w h i j d e =
+  laying_turn l l₁ l₂ t a b c x y z w h i j d e =
       let s : suc t ≡ t + 1 = omega arith in
-      let f : l₂ ≡ putBoth p r n (suc t) (suc t) old =
-      put-request l₁ l₂ (suc t) t x y z (put-point l l₁ t t a b c w.upto w.laid i d) j e in
+      let f : l₂ ≡ put_both p r n (suc t) (suc t) old =
+      put_request l₁ l₂ (suc t) t x y z (put_point l l₁ t t a b c w.upto w.laid i d) j e in
       record {
         upto = omega arith;
         laid = rw s at f;
         long = ap length e ∙ length-put l₁ (n + 1 + t) x y z ∙ ap length d ∙ length-put l t a b c ∙ w.long;
       }
 
-  pub laying-end : (l l' : List ℕ) (t a b c : ℕ) → Laying p r n old l t → n ≤ t → Says p n a b c → l' ≡ put_at l n a b c
-      → l' ≡ putBoth p r n (suc n) n old
-  laying-end l l' t a b c w h s e =
+  pub laying_end : (l l' : List ℕ) (t a b c : ℕ) → Laying p r n old l t → n ≤ t → Says p n a b c → l' ≡ put_at l n a b c
+      → l' ≡ put_both p r n (suc n) n old
+  laying_end l l' t a b c w h s e =
       let q : t ≡ n = omega (arith, w.upto) in
-      put-point l l' n n a b c (omega arith) (rw q at w.laid) s e
+      put_point l l' n n a b c (omega arith) (rw q at w.laid) s e
 
 -- all nodes are stored
-pub both-laid : (f p r : ℕ → ℕ → ℕ) (n : ℕ) (l : List ℕ) → 3 * suc (2 * n) ≤ length l → ((g kind : ℕ) → g < suc n → p g kind ≡ f g kind)
-    → ((t kind : ℕ) → t < n → r t kind ≡ f (n + 1 + t) kind) → putBoth p r n (suc n) n l ≡ rows f (suc (2 * n)) 0 ++ drop (3 * suc (2 * n)) l
-both-laid f p r n l h x y =
+pub both_laid : (f p r : ℕ → ℕ → ℕ) (n : ℕ) (l : List ℕ) → 3 * suc (2 * n) ≤ length l → ((g kind : ℕ) → g < suc n → p g kind ≡ f g kind)
+    → ((t kind : ℕ) → t < n → r t kind ≡ f (n + 1 + t) kind) → put_both p r n (suc n) n l ≡ rows f (suc (2 * n)) 0 ++ drop (3 * suc (2 * n)) l
+both_laid f p r n l h x y =
     let e : n + 1 + n ≡ suc (2 * n) = omega arith in
     let s : suc n ≡ n + 1 = omega arith in
-    ap (λ (m : List ℕ). putRows r (n + 1) n m) (putRows-same p f 0 (suc n) l x ∙ ap (λ (i : ℕ). putRows f 0 i l) s)
-    ∙ putRows-join f r (n + 1) n l y
-    ∙ ap (λ (i : ℕ). putRows f 0 i l) e
-    ∙ rows-laid f (suc (2 * n)) l h
+    ap (λ (m : List ℕ). put_rows r (n + 1) n m) (put_rows-same p f 0 (suc n) l x ∙ ap (λ (i : ℕ). put_rows f 0 i l) s)
+    ∙ put_rows-join f r (n + 1) n l y
+    ∙ ap (λ (i : ℕ). put_rows f 0 i l) e
+    ∙ rows_laid f (suc (2 * n)) l h
 
-pub length_both : (p r : ℕ → ℕ → ℕ) (n k t : ℕ) (l : List ℕ) → length (putBoth p r n k t l) ≡ length l
-length_both p r n k t l = length-putRows r (n + 1) t (putRows p 0 k l) ∙ length-putRows p 0 k l
+pub length_both : (p r : ℕ → ℕ → ℕ) (n k t : ℕ) (l : List ℕ) → length (put_both p r n k t l) ≡ length l
+length_both p r n k t l = length-put_rows r (n + 1) t (put_rows p 0 k l) ∙ length-put_rows p 0 k l

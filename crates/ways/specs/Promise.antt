@@ -1,7 +1,7 @@
 -- What the calls of `ways` promise of the lists that are lent to them. Assumes nothing.
 use Rattle.std.specs.Prelude.{◌≡◌, ℕ, zero, suc, ◌*◌, cond, List, [], ◌∷◌, ◌++◌, length, drop, ltb}
-use Rattle.trace.specs.TraceFile.{requestsAt}
-use Rattle.ways.specs.Ways.{sourceBy, chargeAt, lengthBy}
+use Rattle.trace.specs.TraceFile.{requests_at}
+use Rattle.ways.specs.Ways.{source_by, charge_at, length_by}
 
 -- what f says of the three kinds of u, of those of u + 1, .. , of k nodes in all
 unfoldable pub rows : (f : ℕ → ℕ → ℕ) → (k u : ℕ) → List ℕ
@@ -19,19 +19,19 @@ laid_of n f l = cond (ltb 1024 n) l (rows f (suc (2 * n)) 0 ++ drop (3 * suc (2 
 
 -- the list of sources as it came in and as it goes out
 pub record Sourced (n : ℕ) (next prev from from' : List ℕ) : Type 0 where
-  pub laid : from' ≡ laid_of n (sourceBy n next prev) from
+  pub laid : from' ≡ laid_of n (source_by n next prev) from
   pub long : length from' ≡ length from
 
 -- the list of charges after the call: those of all requests in front, or all kept if there are over 1024
-abbrev pub chargedOf : (tr old : List ℕ) → List ℕ
-chargedOf tr old = cond (ltb 1024 (requestsAt tr)) old (listed (chargeAt tr) (requestsAt tr) 0 ++ drop (requestsAt tr) old)
+abbrev pub charged_of : (tr old : List ℕ) → List ℕ
+charged_of tr old = cond (ltb 1024 (requests_at tr)) old (listed (charge_at tr) (requests_at tr) 0 ++ drop (requests_at tr) old)
 
 -- the list of charges as it came in and as it goes out
 pub record Charged (tr old new : List ℕ) : Type 0 where
-  pub laid : new ≡ chargedOf tr old
+  pub laid : new ≡ charged_of tr old
   pub long : length new ≡ length old
 
 -- the list of lengths as it came in and as it goes out
 pub record Measured (n fill k : ℕ) (from charges flags worth len len' : List ℕ) : Type 0 where
-  pub laid : len' ≡ laid_of n (lengthBy n fill k from charges flags worth) len
+  pub laid : len' ≡ laid_of n (length_by n fill k from charges flags worth) len
   pub long : length len' ≡ length len

@@ -1,6 +1,6 @@
 // Reading the lists, sums of four bytes, and storing the lengths of a node.
 ghost use Rattle.std.specs.Prelude.{◌≡◌, ◌≤◌, ◌<◌, length};
-ghost use Rattle.ways.specs.Ways.{heldBy};
+ghost use Rattle.ways.specs.Ways.{held_by};
 ghost use Rattle.ways.specs.Ways as ways;
 ghost use Rattle.ways.specs.Parts.{put_at};
 
@@ -28,7 +28,7 @@ pub fn minus(a: u32, b: u32) -> u32
 // Whether the item of request t is held before it.
 pub fn is_held(from: &[u16; 6150], flags: &[u8; 1024], n: usize, t: usize) -> bool
     requires { (t < n) × (n ≤ 1024) }
-    ensures { result ≡ heldBy flags.now from.now n t }
+    ensures { result ≡ held_by flags.now from.now n t }
 {
     let v = n + 1 + t;
     let b = wide(from[3 * v + 1]);

@@ -1,7 +1,7 @@
 // Where the ways into the nodes come from.
 ghost use Rattle.std.specs.Prelude.{◌≡◌, suc, ◌+◌, ◌-◌, ◌≤◌, ◌<◌, cond, ltb, length};
-ghost use Rattle.ways.specs.Ways.{pointSource, requestSource};
-ghost use Rattle.ways.specs.Parts.{putBoth};
+ghost use Rattle.ways.specs.Ways.{point_source, request_source};
+ghost use Rattle.ways.specs.Parts.{put_both};
 
 use crate::lists::{name, wide};
 
@@ -36,7 +36,7 @@ fn before(g: usize) -> u16
 // The sources of the ways into all nodes.
 pub fn lay(next: &[u16; 1024], prev: &[u16; 1024], n: usize, from: &mut [u16])
     requires { (n ≤ 1024) × (length from.old ≡ 6150) }
-    ensures { from.new ≡ putBoth (pointSource n) (requestSource n next.now prev.now) n (suc n) n from.old }
+    ensures { from.new ≡ put_both (point_source n) (request_source n next.now prev.now) n (suc n) n from.old }
 {
     let mut t: usize = 0;
     while t < n {

@@ -1,8 +1,8 @@
 // The lengths of the ways, request by request. Which of the four cases a request has is decided once, by branches:
 // under an emulator a comparison whose result is kept costs more than one that is jumped on.
 ghost use Rattle.std.specs.Prelude.{◌≡◌, suc, ◌+◌, ◌-◌, ◌≤◌, ◌<◌, cond, ltb, length, get_or};
-ghost use Rattle.ways.specs.Ways.{closed, unheld, nowHeld, pointLength, requestLength};
-ghost use Rattle.ways.specs.Parts.{idleWay, downWay, aheadWay, behindWay, middleWay, putBoth, Turned};
+ghost use Rattle.ways.specs.Ways.{closed, unheld, now_held, point_length, request_length};
+ghost use Rattle.ways.specs.Parts.{idle_way, down_way, ahead_way, behind_way, middle_way, put_both, Turned};
 
 use crate::Way;
 use crate::lists::{is_held, minus, plus, put, wide};
@@ -30,7 +30,7 @@ fn given_up(q: u32, w: u32, c: u32) -> u32
 
 // And for one that is held from now on.
 fn taken_up(q: u32, w: u32, c: u32) -> u32
-    ensures { result ≡ nowHeld q w c }
+    ensures { result ≡ now_held q w c }
 {
     if c % 2 == 1 {
         minus(plus(q, c / 2), w)
@@ -42,7 +42,7 @@ fn taken_up(q: u32, w: u32, c: u32) -> u32
 // The way into request t from the next request of its item, which is kept up to it.
 fn ahead(from: &[u16; 6150], charges: &[u32; 1024], worth: &[u32; 2050], n: usize, t: usize) -> u32
     requires { (t < n) × (n ≤ 1024) }
-    ensures { result ≡ aheadWay n from.now charges.now worth.now t }
+    ensures { result ≡ ahead_way n from.now charges.now worth.now t }
 {
     let v = n + 1 + t;
     let a = wide(from[3 * v]);
@@ -57,7 +57,7 @@ fn ahead(from: &[u16; 6150], charges: &[u32; 1024], worth: &[u32; 2050], n: usiz
 // The way into request t from the previous request of its item, which is not held.
 fn behind(from: &[u16; 6150], charges: &[u32; 1024], worth: &[u32; 2050], n: usize, t: usize) -> u32
     requires { (t < n) × (n ≤ 1024) }
-    ensures { result ≡ behindWay n from.now charges.now worth.now t }
+    ensures { result ≡ behind_way n from.now charges.now worth.now t }
 {
     let v = n + 1 + t;
     let b = wide(from[3 * v + 1]);
@@ -72,7 +72,7 @@ fn behind(from: &[u16; 6150], charges: &[u32; 1024], worth: &[u32; 2050], n: usi
 // The way into request t from its point, where its item is not given up.
 fn middle(charges: &[u32; 1024], worth: &[u32; 2050], n: usize, fill: u32, t: usize) -> u32
     requires { (t < n) × (n ≤ 1024) }
-    ensures { result ≡ middleWay n fill charges.now worth.now t }
+    ensures { result ≡ middle_way n fill charges.now worth.now t }
 {
     if charges[t] % 2 == 1 {
         return Way::CLOSED;
@@ -83,7 +83,7 @@ fn middle(charges: &[u32; 1024], worth: &[u32; 2050], n: usize, fill: u32, t: us
 // The way from request t down to its point, where no item is filled.
 fn down(worth: &[u32; 2050], n: usize, t: usize) -> u32
     requires { (t < n) × (n ≤ 1024) }
-    ensures { result ≡ downWay n worth.now t }
+    ensures { result ≡ down_way n worth.now t }
 {
     minus(worth[n + 1 + t], worth[t])
 }
@@ -98,7 +98,7 @@ fn across(c: usize, k: u8) -> u32
 // The way into point g from the point before it.
 fn idle(worth: &[u32; 2050], g: usize) -> u32
     requires { g ≤ 1024 }
-    ensures { result ≡ idleWay worth.now g }
+    ensures { result ≡ idle_way worth.now g }
 {
     if 0 < g {
         minus(worth[g - 1], worth[g])
@@ -214,7 +214,7 @@ pub fn lay(
     len: &mut [u32],
 )
     requires { (n ≤ 1024) × (length len.old ≡ 6150) }
-    ensures { len.new ≡ putBoth (pointLength n k from.now flags.now worth.now) (requestLength n fill from.now charges.now flags.now worth.now) n (suc n) n len.old }
+    ensures { len.new ≡ put_both (point_length n k from.now flags.now worth.now) (request_length n fill from.now charges.now flags.now worth.now) n (suc n) n len.old }
 {
     let mut c: usize = 0;
     let mut t: usize = 0;

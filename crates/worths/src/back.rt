@@ -1,13 +1,13 @@
 // The worths at the start, told from the last request back.
 ghost use Rattle.std.specs.Prelude.{◌≡◌, ◌≤◌, ◌<◌, length};
-ghost use Rattle.worths.specs.Worths.{gainBy, aheadBy, pointBy, Told};
+ghost use Rattle.worths.specs.Worths.{gain_by, ahead_by, point_by, Told};
 
 use crate::numbers::{less, more, most, place};
 use model::Requests;
 
 // What an item that is worth q after request u is worth before it.
 pub fn gain(trace: &[u8], u: usize, q: u32) -> u32
-    ensures { result ≡ gainBy trace.now u q }
+    ensures { result ≡ gain_by trace.now u q }
 {
     let cost = trace::cost(trace, u);
     if trace::kind(trace, u) == 1 {
@@ -20,7 +20,7 @@ pub fn gain(trace: &[u8], u: usize, q: u32) -> u32
 // What holding request t's item is worth by its next request.
 pub fn ahead(trace: &[u8], next: &[u16; Requests::MAX], worth: &[u32], n: usize, t: usize) -> u32
     requires { (t < n) × (n ≤ 1024) × (length worth.now ≡ 2050) }
-    ensures { result ≡ aheadBy trace.now n next.now worth.now t }
+    ensures { result ≡ ahead_by trace.now n next.now worth.now t }
 {
     let u = place(next[t]);
     if t < u {
@@ -33,7 +33,7 @@ pub fn ahead(trace: &[u8], next: &[u16; Requests::MAX], worth: &[u32], n: usize,
 
 // What an empty slot is worth before request t, where it is worth `after` behind it and a held item q.
 pub fn point(trace: &[u8], t: usize, after: u32, q: u32) -> u32
-    ensures { result ≡ pointBy trace.now t after q }
+    ensures { result ≡ point_by trace.now t after q }
 {
     if trace::kind(trace, t) == 1 {
         after

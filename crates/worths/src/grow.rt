@@ -1,6 +1,6 @@
 // Raising the worths after a search.
 ghost use Rattle.std.specs.Prelude.{◌≡◌, ◌≤◌, ◌<◌, length, get_or, set};
-ghost use Rattle.worths.specs.Worths.{grownBy, Raised};
+ghost use Rattle.worths.specs.Worths.{grown_by, Raised};
 
 use crate::Worth;
 use crate::numbers::{more, wide};
@@ -9,7 +9,7 @@ use crate::numbers::{more, wide};
 // slow where the program runs under an emulator.
 pub fn lift(worth: &mut [u32], v: usize, dist: u32, d: u64)
     requires { v < length worth.old }
-    ensures { worth.new ≡ set worth.old v (grownBy dist d (get_or worth.old v 0)) }
+    ensures { worth.new ≡ set worth.old v (grown_by dist d (get_or worth.old v 0)) }
 {
     let at = wide(dist);
     if at < d {

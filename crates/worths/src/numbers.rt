@@ -1,6 +1,6 @@
 // Sums and differences that stay within 0 and the greatest worth.
 ghost use Rattle.std.specs.Prelude.{◌≡◌, ◌+◌, ◌-◌, min, max};
-ghost use Rattle.worths.specs.Worths.{maxWorth};
+ghost use Rattle.worths.specs.Worths.{max_worth};
 
 use crate::Worth;
 
@@ -42,7 +42,7 @@ pub fn less(a: u32, b: u64) -> u32
 
 // The sum, or the greatest worth where that is less.
 pub fn more(a: u32, b: u64) -> u32
-    ensures { result ≡ min maxWorth (a + b) }
+    ensures { result ≡ min max_worth (a + b) }
 {
     let most = wide(Worth::MAX);
     let from = wide(a);

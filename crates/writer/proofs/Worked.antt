@@ -12,13 +12,13 @@ use Rattle.fields.specs.Bytes.{num_at}
 use Rattle.fields.proofs.Bytes.{AllBytes}
 use Rattle.model.specs.Model.{cost}
 use Rattle.model.specs.Refusals.{passes, fine}
-use Rattle.trace.specs.TraceFile.{traceTried}
-use Rattle.trace.proofs.Example.{exampleBytes}
-use Rattle.plan.specs.PlanFile.{planTried, sectionTried}
-use Rattle.replay.specs.Replay.{flagsTried}
-use Rattle.audit.specs.Audit.{auditTried}
-use Rattle.writer.specs.Write.{writeTried, writeOf, bufferOf}
-use Rattle.writer.proofs.Laws.{planIn, ReadsBack, PassesAudit, written-reads-back, written-passes-audit, rest-kept, written-again, different-buffers-differ}
+use Rattle.trace.specs.TraceFile.{trace_tried}
+use Rattle.trace.proofs.Example.{example_bytes}
+use Rattle.plan.specs.PlanFile.{plan_tried, section_tried}
+use Rattle.replay.specs.Replay.{flags_tried}
+use Rattle.audit.specs.Audit.{audit_tried}
+use Rattle.writer.specs.Write.{write_tried, write_of, buffer_of}
+use Rattle.writer.proofs.Laws.{plan_in, ReadsBack, PassesAudit, written_reads_back, written_passes_audit, rest_kept, written_again, different_buffers_differ}
 
 -- the plan, as the document has it
 abbrev file : List ℕ
@@ -32,8 +32,8 @@ file =
 abbrev keeps : List ℕ
 keeps = 1 ∷ 1 ∷ 0 ∷ []
 
-abbrev passes-by : List ℕ
-passes-by = 0 ∷ 0 ∷ 0 ∷ []
+abbrev passes_by : List ℕ
+passes_by = 0 ∷ 0 ∷ 0 ∷ []
 
 abbrev free : List ℕ
 free = 0 ∷ 0 ∷ 0 ∷ []
@@ -51,47 +51,47 @@ abbrev all_bytes : List ℕ → Bool
 all_bytes [] = true
 all_bytes (x ∷ l) = ltb x 256 && all_bytes l
 
-all-bytes : (l : List ℕ) → all_bytes l ≡ true → AllBytes l
-all-bytes [] h i = omega arith
-all-bytes (x ∷ l) h zero = ltb-true x 256 (both_true (ltb x 256) (all_bytes l) h).0
-all-bytes (x ∷ l) h (suc i) = all-bytes l (both_true (ltb x 256) (all_bytes l) h).1 i
+all_bytes_lem : (l : List ℕ) → all_bytes l ≡ true → AllBytes l
+all_bytes_lem [] h i = omega arith
+all_bytes_lem (x ∷ l) h zero = ltb-true x 256 (both_true (ltb x 256) (all_bytes l) h).0
+all_bytes_lem (x ∷ l) h (suc i) = all_bytes_lem l (both_true (ltb x 256) (all_bytes l) h).1 i
 
 -- ---- the plan is sound, and is written again
 
-sound : auditTried exampleBytes file ≡ passes
-unfolding auditTried sectionTried traceTried planTried flagsTried num_at cost
+sound : audit_tried example_bytes file ≡ passes
+unfolding audit_tried section_tried trace_tried plan_tried flags_tried num_at cost
 sound = refl
 
-pub again : (writeOf exampleBytes keeps free (length exact) ≡ fine 19) × (bufferOf exampleBytes keeps free exact ≡ file)
+pub again : (write_of example_bytes keeps free (length exact) ≡ fine 19) × (buffer_of example_bytes keeps free exact ≡ file)
 unfolding num_at
-again = written-again exampleBytes file sound exact (all-bytes file refl) refl
+again = written_again example_bytes file sound exact (all_bytes_lem file refl) refl
 
 -- ---- what is written is read back
 
-tried : writeTried exampleBytes keeps free (length buffer) ≡ passes
-unfolding writeTried traceTried flagsTried num_at
+tried : write_tried example_bytes keeps free (length buffer) ≡ passes
+unfolding write_tried trace_tried flags_tried num_at
 tried = refl
 
-pub reads : ReadsBack exampleBytes keeps free 19 (planIn exampleBytes (bufferOf exampleBytes keeps free buffer))
+pub reads : ReadsBack example_bytes keeps free 19 (plan_in example_bytes (buffer_of example_bytes keeps free buffer))
 unfolding num_at cost
-reads = written-reads-back exampleBytes keeps free buffer tried
+reads = written_reads_back example_bytes keeps free buffer tried
 
-pub audited : PassesAudit exampleBytes (planIn exampleBytes (bufferOf exampleBytes keeps free buffer)) 19
+pub audited : PassesAudit example_bytes (plan_in example_bytes (buffer_of example_bytes keeps free buffer)) 19
 unfolding num_at cost
-audited = written-passes-audit exampleBytes keeps free buffer tried
+audited = written_passes_audit example_bytes keeps free buffer tried
 
-pub kept : drop 31 (bufferOf exampleBytes keeps free buffer) ≡ 8 ∷ 7 ∷ []
+pub kept : drop 31 (buffer_of example_bytes keeps free buffer) ≡ 8 ∷ 7 ∷ []
 unfolding num_at
-kept = rest-kept exampleBytes keeps free buffer tried
+kept = rest_kept example_bytes keeps free buffer tried
 
 -- ---- and nothing else is written so
 
-other : writeTried exampleBytes passes-by free (length buffer) ≡ passes
-unfolding writeTried traceTried flagsTried num_at
+other : write_tried example_bytes passes_by free (length buffer) ≡ passes
+unfolding write_tried trace_tried flags_tried num_at
 other = refl
 
-pub apart : bufferOf exampleBytes keeps free buffer ≡ bufferOf exampleBytes passes-by free buffer → ⊥
+pub apart : buffer_of example_bytes keeps free buffer ≡ buffer_of example_bytes passes_by free buffer → ⊥
 apart e =
-    let same = (different-buffers-differ exampleBytes keeps free buffer passes-by free buffer tried other e).0 in
+    let same = (different_buffers_differ example_bytes keeps free buffer passes_by free buffer tried other e).0 in
     let z : ◌≡◌ {A = ℕ} 1 0 = cc in
     omega arith

@@ -1,9 +1,9 @@
 // The bytes of a plan, laid into a buffer that has room for them: each step keeps all the other bytes.
 ghost use Rattle.std.specs.Prelude.{◌≡◌, ◌+◌, ◌*◌, ◌≤◌, length};
 ghost use Rattle.std.proofs.lemmas.List.Edits.{sets};
-ghost use Rattle.fields.specs.Bytes.{bytes_of, bytesOfAll};
-ghost use Rattle.plan.specs.PlanFile.{planBytes};
-ghost use Rattle.writer.specs.Laying.{markBytes};
+ghost use Rattle.fields.specs.Bytes.{bytes_of, bytes_of_all};
+ghost use Rattle.plan.specs.PlanFile.{plan_bytes};
+ghost use Rattle.writer.specs.Laying.{mark_bytes};
 
 // What stands before the flags.
 #[derive(Drop)]
@@ -36,7 +36,7 @@ impl Rent {
 // The mark, the version, the zero byte, and n in two bytes.
 pub fn mark(buffer: &mut [u8], n: usize)
     requires { 8 ≤ length buffer.old }
-    ensures { buffer.new ≡ sets buffer.old 0 (markBytes n) }
+    ensures { buffer.new ≡ sets buffer.old 0 (mark_bytes n) }
 {
     buffer[0] = b'C';
     buffer[1] = b'P';
@@ -74,7 +74,7 @@ pub fn flags(buffer: &mut [u8], at: usize, flags: &[u8])
 // The rents, four bytes each, from place `at` on.
 pub fn rents(buffer: &mut [u8], at: usize, rents: &[u32])
     requires { at + 4 * length rents.now ≤ length buffer.old }
-    ensures { buffer.new ≡ sets buffer.old at (bytesOfAll 4 rents.now) }
+    ensures { buffer.new ≡ sets buffer.old at (bytes_of_all 4 rents.now) }
 {
     let mut t: usize = 0;
     while t < rents.len() {
@@ -86,7 +86,7 @@ pub fn rents(buffer: &mut [u8], at: usize, rents: &[u32])
 // The whole plan, from the buffer's start.
 pub fn plan(buffer: &mut [u8], cost: u64, flags: &[u8], rents: &[u32])
     requires { 16 + length flags.now + 4 * length rents.now ≤ length buffer.old }
-    ensures { buffer.new ≡ sets buffer.old 0 (planBytes cost flags.now rents.now) }
+    ensures { buffer.new ≡ sets buffer.old 0 (plan_bytes cost flags.now rents.now) }
 {
     let n = flags.len();
     mark(buffer, n);

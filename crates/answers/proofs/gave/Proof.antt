@@ -2,8 +2,8 @@
 use borrow.Author.Rules.{rules}
 use mathlib.Core.Path.{refl, sym, ◌∙◌, ap}
 use Rattle.model.specs.Refusals.{fine}
-use Rattle.sentences.proofs.Fitting.{laid-whole}
-use Rattle.answers.proofs.Ratios.{quotient-least}
+use Rattle.sentences.proofs.Fitting.{laid_whole}
+use Rattle.answers.proofs.Ratios.{quotient_least}
 use Rattle.answers.proofs.gave.Statement.{statement}
 use Rattle.answers.proofs.gave.Tie as tie
 
@@ -38,13 +38,13 @@ quotient-requires : tie.Need-quotient-requires
 quotient-requires c κs =
     let g = c.before.before in
     let s = g.before.before in
-    quotient-least s.args.least s.args.measured _ (sym (ap fine g.gap.given.1) ∙ s.requires)
+    quotient_least s.args.least s.args.measured _ (sym (ap fine g.gap.given.1) ∙ s.requires)
 
 returns : tie.Need-returns
-returns c = rw c.before.before.before.before.enum_told.given.1 (laid-whole refl c.lay.ensures)
+returns c = rw c.before.before.before.before.enum_told.given.1 (laid_whole refl c.lay.ensures)
 
 returns-2 : tie.Need-returns-2
-returns-2 c = rw c.before.before.before.before.enum-told2.given.1 (laid-whole refl c.lay2.ensures)
+returns-2 c = rw c.before.before.before.before.enum-told2.given.1 (laid_whole refl c.lay2.ensures)
 
 returns-3 : tie.Need-returns-3
 returns-3 c = rw c.before.before.before.gap.given.1 c.quotient.ensures

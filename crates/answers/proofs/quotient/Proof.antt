@@ -3,7 +3,7 @@ use borrow.Author.Rules.{rules}
 use mathlib.Core.Path.{refl}
 use native.Mathlib.Nat.{mod-lt}
 use native.Mathlib.Omega.{arith}
-use Rattle.sentences.proofs.Fitting.{laid-whole}
+use Rattle.sentences.proofs.Fitting.{laid_whole}
 use Rattle.answers.proofs.quotient.Statement.{statement}
 use Rattle.answers.proofs.quotient.Tie as tie
 
@@ -34,7 +34,7 @@ lay-requires : tie.Need-lay-requires
 lay-requires c κs = search rules
 
 returns : tie.Need-returns
-returns c = rw (← c.before.before.before.before.cut.ensures) (laid-whole refl c.lay.ensures)
+returns c = rw (← c.before.before.before.before.cut.ensures) (laid_whole refl c.lay.ensures)
 
 pub quotient-spec : {M : Type 1} → statement M
 quotient-spec =

@@ -1,10 +1,10 @@
 -- `audit` meets its contract: each return is one answer of the rows. Assumes nothing.
 use mathlib.Core.Path.{◌≡◌, sym}
 use Rattle.model.specs.Refusals.{passes, fine}
-use Rattle.plan.specs.PlanFile.{sectionTried, flags_of}
-use Rattle.replay.specs.Replay.{replayOf}
-use Rattle.replay.specs.Answers.{totalsIn}
-use Rattle.audit.proofs.Answered.{section-off, flags-off, cost-off, rents-off, audit-done}
+use Rattle.plan.specs.PlanFile.{section_tried, flags_of}
+use Rattle.replay.specs.Replay.{replay_of}
+use Rattle.replay.specs.Answers.{totals_in}
+use Rattle.audit.proofs.Answered.{section_off, flags-off, cost-off, rents_off, audit-done}
 use borrow.Author.Rules.{rules}
 use Rattle.audit.proofs.audit.Statement.{statement}
 use Rattle.audit.proofs.audit.Tie as tie
@@ -16,17 +16,17 @@ enum-known-r : tie.Need-enum-known-r
 enum-known-r c = search rules
 
 returns : tie.Need-returns
-returns c = section-off c.before.before.before.before.before.before.args.trace.now c.before.before.before.before.before.before.args.plan.now _ _ (rw c.before.r.given.1 at c.before.before.before.refusal.ensures)
+returns c = section_off c.before.before.before.before.before.before.args.trace.now c.before.before.before.before.before.before.args.plan.now _ _ (rw c.before.r.given.1 at c.before.before.before.refusal.ensures)
 
 enum_told : tie.Need-enum-told
 enum_told c = search rules
 
 -- where rows 1 to 12 pass
-passed : (c : tie.After-enum-told) → sectionTried c.before.before.before.before.before.args.trace.now c.before.before.before.before.before.args.plan.now ≡ passes
+passed : (c : tie.After-enum-told) → section_tried c.before.before.before.before.before.args.trace.now c.before.before.before.before.before.args.plan.now ≡ passes
 passed c = sym (rw c.enum_told.given.1 at c.before.before.refusal.ensures)
 
 -- where the replay has totals
-done : (c : tie.After-totals) → fine (totalsIn c.totals.given.0.0) ≡ replayOf c.before.before.before.before.before.before.before.before.before.args.trace.now (flags_of c.before.before.before.before.before.before.before.before.before.args.trace.now c.before.before.before.before.before.before.before.before.before.args.plan.now)
+done : (c : tie.After-totals) → fine (totals_in c.totals.given.0.0) ≡ replay_of c.before.before.before.before.before.before.before.before.before.args.trace.now (flags_of c.before.before.before.before.before.before.before.before.before.args.trace.now c.before.before.before.before.before.before.before.before.before.args.plan.now)
 done c = rw (c.totals.given.1, c.before.before.before.flags.ensures) at c.before.before.replay.ensures
 
 flags-requires : tie.Need-flags-requires
@@ -61,7 +61,7 @@ returns-3 c = flags-off c.before.before.before.before.before.before.before.befor
 
 returns-4 : tie.Need-returns-4
 returns-4 c =
-    rents-off c.before.before.before.before.before.before.before.before.before.before.before.before.before.before.before.before.before.args.trace.now c.before.before.before.before.before.before.before.before.before.before.before.before.before.before.before.before.before.args.plan.now (passed c.before.before.before.before.before.before.before.before.before.before.before.before) _ (done c.before.before.before.before.before.before.before.before) _ c.before.before.before.before.before.before.stated-cost.ensures c.before.before.before.before.if1.false _ _
+    rents_off c.before.before.before.before.before.before.before.before.before.before.before.before.before.before.before.before.before.args.trace.now c.before.before.before.before.before.before.before.before.before.before.before.before.before.before.before.before.before.args.plan.now (passed c.before.before.before.before.before.before.before.before.before.before.before.before) _ (done c.before.before.before.before.before.before.before.before) _ c.before.before.before.before.before.before.stated-cost.ensures c.before.before.before.before.if1.false _ _
     (rw c.before.r3.given.1 at c.before.before.before.tried.ensures)
 
 returns-5 : tie.Need-returns-5

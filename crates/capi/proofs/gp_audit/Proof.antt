@@ -1,10 +1,10 @@
 -- `capi::gp_audit` meets its contract: the audit's totals, or the code of its refusal. Assumes nothing.
 use mathlib.Core.Path.{refl}
 use borrow.Author.Rules.{rules}
-use Rattle.trace.specs.TraceFile.{traceIn}
-use Rattle.replay.specs.Replay.{totalsOf}
-use Rattle.audit.specs.Audit.{planFlags}
-use Rattle.capi.proofs.Small.{answered-codable, audit-small}
+use Rattle.trace.specs.TraceFile.{trace_in}
+use Rattle.replay.specs.Replay.{totals_of}
+use Rattle.audit.specs.Audit.{plan_flags}
+use Rattle.capi.proofs.Small.{answered_codable, audit_small}
 use Rattle.capi.proofs.gp_audit.Statement.{statement}
 use Rattle.capi.proofs.gp_audit.Tie as tie
 
@@ -17,7 +17,7 @@ enum-known-r c = search rules
 code-requires : tie.Need-code-requires
 code-requires c κs =
     let s = c.before.before.before.before.before.before in
-    answered-codable (totalsOf (traceIn s.args.trace.now) (planFlags s.args.trace.now s.args.plan.now)) (audit-small s.args.trace.now s.args.plan.now)
+    answered_codable (totals_of (trace_in s.args.trace.now) (plan_flags s.args.trace.now s.args.plan.now)) (audit_small s.args.trace.now s.args.plan.now)
     (rw c.before.r.given.1 at c.before.before.before.audit.ensures)
 
 enum-known-s : tie.Need-enum-known-s

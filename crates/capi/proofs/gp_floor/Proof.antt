@@ -2,9 +2,9 @@
 use mathlib.Core.Path.{refl}
 use borrow.Author.Rules.{rules}
 use Rattle.model.specs.Model.{floor}
-use Rattle.model.specs.Plans.{rentsIn}
-use Rattle.trace.specs.TraceFile.{traceIn}
-use Rattle.capi.proofs.Small.{answered-codable, floor-small}
+use Rattle.model.specs.Plans.{rents_in}
+use Rattle.trace.specs.TraceFile.{trace_in}
+use Rattle.capi.proofs.Small.{answered_codable, floor_small}
 use Rattle.capi.proofs.gp_floor.Statement.{statement}
 use Rattle.capi.proofs.gp_floor.Tie as tie
 
@@ -17,7 +17,7 @@ enum-known-r c = search rules
 code-requires : tie.Need-code-requires
 code-requires c κs =
     let s = c.before.before.before.before.before.before in
-    answered-codable (floor (traceIn s.args.trace.now) (rentsIn s.args.rents.now)) (floor-small s.args.trace.now s.args.rents.now)
+    answered_codable (floor (trace_in s.args.trace.now) (rents_in s.args.rents.now)) (floor_small s.args.trace.now s.args.rents.now)
     (rw c.before.r.given.1 at c.before.before.before.floor.ensures)
 
 enum-known-z : tie.Need-enum-known-z

@@ -1,8 +1,8 @@
 -- `capi::gp_judge` meets its contract: the judge's cost, or the code of its refusal. Assumes nothing.
 use mathlib.Core.Path.{refl}
 use borrow.Author.Rules.{rules}
-use Rattle.audit.specs.Audit.{planCost}
-use Rattle.capi.proofs.Small.{answered-codable, judge-small}
+use Rattle.audit.specs.Audit.{plan_cost}
+use Rattle.capi.proofs.Small.{answered_codable, judge_small}
 use Rattle.capi.proofs.gp_judge.Statement.{statement}
 use Rattle.capi.proofs.gp_judge.Tie as tie
 
@@ -15,7 +15,7 @@ enum-known-r c = search rules
 code-requires : tie.Need-code-requires
 code-requires c κs =
     let s = c.before.before.before.before.before.before in
-    answered-codable (planCost s.args.trace.now s.args.plan.now) (judge-small s.args.trace.now s.args.plan.now)
+    answered_codable (plan_cost s.args.trace.now s.args.plan.now) (judge_small s.args.trace.now s.args.plan.now)
     (rw c.before.r.given.1 at c.before.before.before.judge.ensures)
 
 enum-known-c : tie.Need-enum-known-c

@@ -2,7 +2,7 @@
 use mathlib.Core.Path.{refl}
 use borrow.Author.Rules.{rules}
 use Rattle.ratio.specs.Ratio.{gap_of}
-use Rattle.capi.proofs.Small.{answered-codable, ratio-small}
+use Rattle.capi.proofs.Small.{answered_codable, ratio_small}
 use Rattle.capi.proofs.gp_ratio.Statement.{statement}
 use Rattle.capi.proofs.gp_ratio.Tie as tie
 
@@ -15,7 +15,7 @@ enum-known-r c = search rules
 code-requires : tie.Need-code-requires
 code-requires c κs =
     let s = c.before.before.before.before in
-    answered-codable (gap_of s.args.least s.args.measured) (ratio-small s.args.least s.args.measured)
+    answered_codable (gap_of s.args.least s.args.measured) (ratio_small s.args.least s.args.measured)
     (rw c.before.r.given.1 at c.before.before.before.ratio.ensures)
 
 enum-known-g : tie.Need-enum-known-g

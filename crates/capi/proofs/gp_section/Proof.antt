@@ -1,6 +1,6 @@
 -- `capi::gp_section` meets its contract: the code of rows 1 to 12. Assumes nothing.
 use borrow.Author.Rules.{rules}
-use Rattle.capi.proofs.Small.{given-codable, section-small}
+use Rattle.capi.proofs.Small.{given_codable, section_small}
 use Rattle.capi.proofs.gp_section.Statement.{statement}
 use Rattle.capi.proofs.gp_section.Tie as tie
 
@@ -13,7 +13,7 @@ enum-known-r c = search rules
 code-requires : tie.Need-code-requires
 code-requires c κs =
     let s = c.before.before.before.before.before.before in
-    given-codable (section-small s.args.trace.now s.args.plan.now)
+    given_codable (section_small s.args.trace.now s.args.plan.now)
     (rw c.before.r.given.1 at c.before.before.before.refusal.ensures)
 
 enum_told : tie.Need-enum-told

@@ -3,7 +3,7 @@ use borrow.Author.Rules.{rules}
 use mathlib.Core.Path.{subst}
 use Rattle.solver.specs.Solve.{Promise}
 use Rattle.solver.specs.declared.Solved.{Solved}
-use Rattle.capi.proofs.Solved.{solved-codable}
+use Rattle.capi.proofs.Solved.{solved_codable}
 use Rattle.capi.proofs.gp_solve.Statement.{statement}
 use Rattle.capi.proofs.gp_solve.Tie as tie
 
@@ -17,7 +17,7 @@ code-requires : tie.Need-code-requires
 code-requires c κs =
     let w = c.before.before.before.before.before in
     let s = w.before.before.before.before in
-    solved-codable s.args.trace.now s.args.buffer.now w.solve.new.1.0 c.before.r.given.0.0
+    solved_codable s.args.trace.now s.args.buffer.now w.solve.new.1.0 c.before.r.given.0.0
     (subst (λ (r : Solved). Promise s.args.trace.now s.args.buffer.now r w.solve.new.1.0) c.before.r.given.1 w.solve.ensures)
 
 enum-known-c : tie.Need-enum-known-c
@@ -30,7 +30,7 @@ returns : tie.Need-returns
 returns c =
     let w = c.before.before.before.before.before.before in
     let e = c.before.before.r.given.1 in
-    record { answer = w.solve.result; promise = w.solve.ensures; code_is = rw e c.code.ensures; cost-is = rw e }
+    record { answer = w.solve.result; promise = w.solve.ensures; code_is = rw e c.code.ensures; cost_is = rw e }
 
 same-length-2 : tie.Need-same-length-2
 same-length-2 c = search rules
@@ -39,7 +39,7 @@ returns-2 : tie.Need-returns-2
 returns-2 c =
     let w = c.before.before.before.before.before in
     let e = c.before.c.given.1 in
-    record { answer = w.solve.result; promise = w.solve.ensures; code_is = rw e; cost-is = rw e }
+    record { answer = w.solve.result; promise = w.solve.ensures; code_is = rw e; cost_is = rw e }
 
 pub gp-solve-spec : {M : Type 1} → statement M
 gp-solve-spec =

@@ -2,8 +2,8 @@
 -- Assumes nothing.
 use borrow.Author.Rules.{rules}
 use lib.ListN.{length}
-use Rattle.writer.specs.Write.{writtenCost}
-use Rattle.capi.proofs.Small.{answered-codable, write-small}
+use Rattle.writer.specs.Write.{written_cost}
+use Rattle.capi.proofs.Small.{answered_codable, write_small}
 use Rattle.capi.proofs.gp_write.Statement.{statement}
 use Rattle.capi.proofs.gp_write.Tie as tie
 
@@ -19,7 +19,7 @@ code-requires c κs =
     let s = w.before.before.before.before.before.before in
     let tr = s.args.trace.now in
     let flags = s.args.flags.now in
-    answered-codable (writtenCost tr flags) (write-small tr flags s.args.rents.now (length s.args.buffer.now))
+    answered_codable (written_cost tr flags) (write_small tr flags s.args.rents.now (length s.args.buffer.now))
     (rw c.before.r.given.1 at w.write.ensures.answer)
 
 enum-known-c : tie.Need-enum-known-c

@@ -1,14 +1,14 @@
 -- Each return is one case of the digit.
 use borrow.Author.Rules.{rules}
 use native.Mathlib.Omega.{arith}
-use Rattle.decimal.proofs.Reading.{digit-past, digit_low, digit-high, digit-there}
+use Rattle.decimal.proofs.Reading.{digit_past, digit_low, digit_high, digit_there}
 use Rattle.decimal.proofs.digit_at.Statement.{statement}
 use Rattle.decimal.proofs.digit_at.Tie as tie
 
 returns : tie.Need-returns
 returns c =
     let a = c.before.before.args in
-    digit-past a.text.now a.at (omega arith)
+    digit_past a.text.now a.at (omega arith)
 
 shared-slice-read-b : tie.Need-shared-slice-read-b
 shared-slice-read-b c = search rules
@@ -21,7 +21,7 @@ returns-2 c =
 returns-3 : tie.Need-returns-3
 returns-3 c =
     let a = c.before.before.before.before.before.args in
-    digit-high a.text.now a.at (omega arith) (omega arith)
+    digit_high a.text.now a.at (omega arith) (omega arith)
 
 wide-requires : tie.Need-wide-requires
 wide-requires c κs = search rules
@@ -29,7 +29,7 @@ wide-requires c κs = search rules
 returns-4 : tie.Need-returns-4
 returns-4 c =
     let a = c.before.before.before.before.before.before.args in
-    omega (arith, digit-there a.text.now a.at (omega arith) (omega arith) (omega arith))
+    omega (arith, digit_there a.text.now a.at (omega arith) (omega arith) (omega arith))
 
 pub digit-at-spec : {M : Type 1} → statement M
 digit-at-spec =

@@ -3,7 +3,7 @@ use borrow.Author.Rules.{rules}
 use native.Mathlib.Omega.{arith}
 use Prim.Native.Nat.{◌-◌, ◌<◌}
 use lib.ListN.{length}
-use Rattle.decimal.proofs.Reading.{Reading, reading_begins, reading-on, reading-large, reading-ends, digit-inside}
+use Rattle.decimal.proofs.Reading.{Reading, reading_begins, reading_on, reading_large, reading_ends, digit_inside}
 use Rattle.decimal.proofs.long.Statement.{statement}
 use Rattle.decimal.proofs.long.Tie as tie
 
@@ -17,7 +17,7 @@ decreases-loop text at top value₀ next₀ d₀ value next d = length text - ne
 digit-here : (c : tie.In-loop invariant-loop decreases-loop) → c.before.loop.next < length c.before.before.before.before.args.text.now
 digit-here c =
     let l = c.before.loop in
-    digit-inside c.before.before.before.before.args.text.now l.next (omega (arith, l.invariant.first))
+    digit_inside c.before.before.before.before.args.text.now l.next (omega (arith, l.invariant.first))
 
 digit-at-requires : tie.Need-digit-at-requires invariant-loop decreases-loop
 digit-at-requires c κs = search rules
@@ -32,7 +32,7 @@ add-value : tie.Need-overflow-add-value invariant-loop decreases-loop
 add-value c = omega (arith, c.before.loop.invariant.small)
 
 returns : tie.Need-returns invariant-loop decreases-loop
-returns c = (reading-large _ _ _ _ _ _ c.before.before.loop.invariant (omega arith) (omega arith), tt)
+returns c = (reading_large _ _ _ _ _ _ c.before.before.loop.invariant (omega arith) (omega arith), tt)
 
 add-next : tie.Need-overflow-add-next invariant-loop decreases-loop
 add-next c = omega (arith, digit-here c.before)
@@ -44,10 +44,10 @@ loop-less : tie.Need-loop-smaller invariant-loop decreases-loop
 loop-less c = omega (arith, digit-here c.before.before)
 
 loop-again : tie.Need-loop-preserved invariant-loop decreases-loop
-loop-again c = reading-on _ _ _ _ _ _ c.before.before.before.loop.invariant _ (omega arith) (omega arith) c.digit-at2.ensures
+loop-again c = reading_on _ _ _ _ _ _ c.before.before.before.loop.invariant _ (omega arith) (omega arith) c.digit-at2.ensures
 
 returns-2 : tie.Need-returns-2 invariant-loop decreases-loop
-returns-2 c = (reading-ends _ _ _ _ _ _ c.before.loop.invariant (omega arith), c.before.loop.invariant.inside)
+returns-2 c = (reading_ends _ _ _ _ _ _ c.before.loop.invariant (omega arith), c.before.loop.invariant.inside)
 
 pub long-spec : {M : Type 1} → statement M
 long-spec =

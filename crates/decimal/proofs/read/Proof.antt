@@ -3,13 +3,13 @@ use borrow.Author.Rules.{rules}
 use mathlib.Core.Path.{◌≡◌, ◌∙◌}
 use native.Mathlib.Omega.{arith}
 use lib.ListN.{drop}
-use Rattle.decimal.specs.Decimal.{digitIn}
-use Rattle.decimal.proofs.Reading.{digit-inside, number-none, number-zero, number-led, number-long, at-inside}
+use Rattle.decimal.specs.Decimal.{digit_in}
+use Rattle.decimal.proofs.Reading.{digit_inside, number_none, number-zero, number-led, number-long, at-inside}
 use Rattle.decimal.proofs.read.Statement.{statement}
 use Rattle.decimal.proofs.read.Tie as tie
 
 -- what was read first
-first : (c : tie.After-digit-at) → let a = c.before.before.args in c.digit_at.result ≡ digitIn (drop a.at a.text.now)
+first : (c : tie.After-digit-at) → let a = c.before.before.args in c.digit_at.result ≡ digit_in (drop a.at a.text.now)
 first c = c.digit_at.ensures
 
 digit-at-requires : tie.Need-digit-at-requires
@@ -18,7 +18,7 @@ digit-at-requires c κs = search rules
 returns : tie.Need-returns
 returns c =
     let a = c.before.before.before.args in
-    record { number = number-none a.text.now a.at a.top _ (first c.before) (omega arith); inside = tt }
+    record { number = number_none a.text.now a.at a.top _ (first c.before) (omega arith); inside = tt }
 
 add-digit-at : tie.Need-overflow-add-digit-at
 add-digit-at c =
@@ -54,7 +54,7 @@ returns-3 c =
 long-requires : tie.Need-long-requires
 long-requires c κs =
     let a = c.before.before.before.before.args in
-    omega (arith, digit-inside a.text.now a.at (omega (arith, first c.before.before)))
+    omega (arith, digit_inside a.text.now a.at (omega (arith, first c.before.before)))
 
 returns-4 : tie.Need-returns-4
 returns-4 c =

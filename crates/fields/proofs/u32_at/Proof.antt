@@ -1,6 +1,6 @@
 use borrow.Author.Rules.{rules}
 use native.Mathlib.Omega.{arith}
-use Rattle.fields.proofs.Numbers.{num-past, num-four}
+use Rattle.fields.proofs.Numbers.{num_past, num_four}
 use Rattle.fields.proofs.u32_at.Statement.{statement}
 use Rattle.fields.proofs.u32_at.Tie as tie
 
@@ -20,10 +20,10 @@ add-result : tie.Need-overflow-add-result
 add-result c = search rules
 
 returns : tie.Need-returns
-returns c = let a = c.before.before.before.before.args in omega (arith, num-four a.at a.s.now)
+returns c = let a = c.before.before.before.before.args in omega (arith, num_four a.at a.s.now)
 
 returns-2 : tie.Need-returns-2
-returns-2 c = let a = c.before.before.args in omega (arith, num-past 4 a.at a.s.now (omega arith))
+returns-2 c = let a = c.before.before.args in omega (arith, num_past 4 a.at a.s.now (omega arith))
 
 pub u32-at-spec : {M : Type 1} → statement M
 u32-at-spec =

@@ -1,6 +1,6 @@
 use borrow.Author.Rules.{rules}
 use native.Mathlib.Omega.{arith}
-use Rattle.fields.proofs.Numbers.{num-past, num-eight}
+use Rattle.fields.proofs.Numbers.{num_past, num_eight}
 use Rattle.fields.proofs.u64_at.Statement.{statement}
 use Rattle.fields.proofs.u64_at.Tie as tie
 
@@ -20,10 +20,10 @@ add-result : tie.Need-overflow-add-result
 add-result c = search rules
 
 returns : tie.Need-returns
-returns c = let a = c.before.before.before.before.args in omega (arith, num-eight a.at a.s.now)
+returns c = let a = c.before.before.before.before.args in omega (arith, num_eight a.at a.s.now)
 
 returns-2 : tie.Need-returns-2
-returns-2 c = let a = c.before.before.args in omega (arith, num-past 8 a.at a.s.now (omega arith))
+returns-2 c = let a = c.before.before.args in omega (arith, num_past 8 a.at a.s.now (omega arith))
 
 pub u64-at-spec : {M : Type 1} → statement M
 u64-at-spec =

@@ -4,8 +4,8 @@ use mir.Syntax.{w64}
 use mir.Facts.{to_z-of_z}
 use borrow.Author.Rules.{rules}
 use Rattle.model.specs.Refusals.{fine}
-use Rattle.floor.specs.Sides.{sidesOf}
-use Rattle.floor.proofs.Answers.{floor-refused, floor-fine, pair_small}
+use Rattle.floor.specs.Sides.{sides_of}
+use Rattle.floor.proofs.Answers.{floor_refused, floor-fine, pair_small}
 use Rattle.floor.proofs.floor.Statement.{statement}
 use Rattle.floor.proofs.floor.Tie as tie
 
@@ -20,14 +20,14 @@ enum-known-p c = search rules
 
 -- the two sides
 told : (c : tie.After-known-told2) → fine c.before.p.given.0.0
-    ≡ sidesOf c.before.before.before.before.before.before.args.trace.now c.before.before.before.before.before.before.args.rents.now
+    ≡ sides_of c.before.before.before.before.before.before.args.trace.now c.before.before.before.before.before.before.args.rents.now
 told c = rw c.before.p.given.1 at c.before.before.before.sides.ensures
 
 less-requires : tie.Need-less-requires
 less-requires c κs = pair_small _ _ _ (told c)
 
 returns : tie.Need-returns
-returns c = floor-refused _ _ _ _ (rw c.before.r.given.1 at c.before.before.before.sides.ensures)
+returns c = floor_refused _ _ _ _ (rw c.before.r.given.1 at c.before.before.before.sides.ensures)
 
 returns-2 : tie.Need-returns-2
 returns-2 c =

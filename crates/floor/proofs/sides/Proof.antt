@@ -2,11 +2,11 @@
 use mathlib.Core.Path.{◌≡◌, sym, ◌∙◌}
 use lib.ListN.{length}
 use Rattle.model.specs.Refusals.{passes}
-use Rattle.model.proofs.Refusals.{answer-fine, answer-refused}
-use Rattle.trace.specs.TraceFile.{requestsAt, traceTried}
-use Rattle.trace.specs.Answers.{headerIn}
-use Rattle.plan.specs.PlanFile.{rentsTried}
-use Rattle.floor.proofs.Answers.{tried-trace, tried-count, tried-rents, ready}
+use Rattle.model.proofs.Refusals.{answer_fine, answer_refused}
+use Rattle.trace.specs.TraceFile.{requests_at, trace_tried}
+use Rattle.trace.specs.Answers.{header_in}
+use Rattle.plan.specs.PlanFile.{rents_tried}
+use Rattle.floor.proofs.Answers.{tried_trace, tried-count, tried-rents, ready}
 use borrow.Author.Rules.{rules}
 use Rattle.floor.proofs.sides.Statement.{statement}
 use Rattle.floor.proofs.sides.Tie as tie
@@ -21,8 +21,8 @@ returns : tie.Need-returns
 returns c =
     let d = c.before.before.before in
     let tr = d.before.before.before.before.before.args.trace.now in
-    let e = answer-refused (traceTried tr) (headerIn tr) _ _ (rw c.before.checked.given.1 at d.fill.ensures.answer) in
-    rw (tried-trace tr d.before.before.before.before.before.args.rents.now _ _ e)
+    let e = answer_refused (trace_tried tr) (header_in tr) _ _ (rw c.before.checked.given.1 at d.fill.ensures.answer) in
+    rw (tried_trace tr d.before.before.before.before.before.args.rents.now _ _ e)
 
 enum_told : tie.Need-enum-told
 enum_told c = search rules
@@ -31,18 +31,18 @@ requests-requires : tie.Need-requests-requires
 requests-requires c κs = search rules
 
 -- the trace is sound
-sound : (c : tie.After-enum-told) → traceTried c.before.before.before.before.before.before.before.args.trace.now ≡ passes
+sound : (c : tie.After-enum-told) → trace_tried c.before.before.before.before.before.before.before.args.trace.now ≡ passes
 sound c =
     let d = c.before.before in
     let tr = d.before.before.before.before.before.args.trace.now in
-    (answer-fine (traceTried tr) (headerIn tr) _ (rw c.enum_told.given.1 at d.fill.ensures.answer)).0
+    (answer_fine (trace_tried tr) (header_in tr) _ (rw c.enum_told.given.1 at d.fill.ensures.answer)).0
 
 returns-2 : tie.Need-returns-2
 returns-2 c = rw (tried-count _ _ (sound c.before.before) (λ q. c.if1.true (q ∙ sym c.before.requests.ensures.0)))
 
 -- there is a rent for each request
 count : (c : tie.Else1) → length c.before.before.before.before.before.before.before.before.before.args.rents.now
-    ≡ requestsAt c.before.before.before.before.before.before.before.before.before.args.trace.now
+    ≡ requests_at c.before.before.before.before.before.before.before.before.before.args.trace.now
 count c = c.if1.false ∙ c.before.requests.ensures.0
 
 rents-refusal-requires : tie.Need-rents-refusal-requires
@@ -60,7 +60,7 @@ enum-told-2 : tie.Need-enum-told-2
 enum-told-2 c = search rules
 
 -- and none of them is too large
-rents : (c : tie.After-enum-told2) → rentsTried 0 c.before.before.before.before.before.before.before.before.before.before.before.before.args.rents.now ≡ passes
+rents : (c : tie.After-enum-told2) → rents_tried 0 c.before.before.before.before.before.before.before.before.before.before.before.before.args.rents.now ≡ passes
 rents c = rw c.enum-told2.given.1 at (sym c.before.before.rents-refusal.ensures)
 
 both-requires : tie.Need-both-requires

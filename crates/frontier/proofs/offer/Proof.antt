@@ -5,7 +5,7 @@ use Prim.Native.Nat.{ℕ, ◌<◌}
 use native.Mathlib.Omega.{arith}
 use borrow.Author.Rules.{rules}
 use lib.ListN.{get_or}
-use Rattle.frontier.proofs.Desks.{offered-out, offered-stay, offered-push, offered-push-full, offered-list, offered-list-full, offered-lower}
+use Rattle.frontier.proofs.Desks.{offered_out, offered-stay, offered-push, offered-push-full, offered-list, offered-list-full, offered-lower}
 use Rattle.frontier.proofs.offer.Statement.{statement}
 use Rattle.frontier.proofs.offer.Tie as tie
 
@@ -19,7 +19,7 @@ less c = omega (arith, c.before.wide.ensures)
 
 returns : tie.Need-returns
 returns c =
-    sym (offered-out _ _ _ _ _ c.if1.true)
+    sym (offered_out _ _ _ _ _ c.if1.true)
 
 mul_wide : tie.Need-overflow-mul-wide
 mul_wide c = search rules

@@ -2,11 +2,11 @@
 use mathlib.Core.Path.{◌≡◌, sym, ap}
 use borrow.Author.Rules.{rules}
 use Rattle.model.specs.Refusals.{passes, refusal}
-use Rattle.model.proofs.Refusals.{answer-fine, answer-refused}
-use Rattle.trace.specs.TraceFile.{traceIn}
-use Rattle.replay.specs.Replay.{Totals, totalsOf}
-use Rattle.audit.specs.Audit.{planFlags, auditTried}
-use Rattle.judge.specs.Judge.{judgeTried}
+use Rattle.model.proofs.Refusals.{answer_fine, answer_refused}
+use Rattle.trace.specs.TraceFile.{trace_in}
+use Rattle.replay.specs.Replay.{Totals, totals_of}
+use Rattle.audit.specs.Audit.{plan_flags, audit_tried}
+use Rattle.judge.specs.Judge.{judge_tried}
 use Rattle.judge.proofs.judge.Statement.{statement}
 use Rattle.judge.proofs.judge.Tie as tie
 
@@ -25,18 +25,18 @@ weighed-requires c κs =
     let s = d.before.before.before in
     let tr = s.args.trace.now in
     let pl = s.args.plan.now in
-    let k = answer-fine (auditTried tr pl) (totalsOf (traceIn tr) (planFlags tr pl)) _ (rw c.before.totals.given.1 at d.audit.ensures) in
+    let k = answer_fine (audit_tried tr pl) (totals_of (trace_in tr) (plan_flags tr pl)) _ (rw c.before.totals.given.1 at d.audit.ensures) in
     (k.0, ap (λ (x : Totals). x.total) k.1)
 
 returns : tie.Need-returns
-unfolding judgeTried
+unfolding judge_tried
 returns c =
     let d = c.before.before.before in
     let s = d.before.before.before in
     let tr = s.args.trace.now in
     let pl = s.args.plan.now in
-    let e : auditTried tr pl ≡ refusal _ _ =
-    answer-refused (auditTried tr pl) (totalsOf (traceIn tr) (planFlags tr pl)) _ _ (rw c.before.r.given.1 at d.audit.ensures) in
+    let e : audit_tried tr pl ≡ refusal _ _ =
+    answer_refused (audit_tried tr pl) (totals_of (trace_in tr) (plan_flags tr pl)) _ _ (rw c.before.r.given.1 at d.audit.ensures) in
     rw e
 
 returns-2 : tie.Need-returns-2

@@ -5,11 +5,11 @@ use borrow.Author.Rules.{rules}
 use lib.ListN.{length, length-take}
 use Prim.Native.Nat.{ℕ, ◌≤◌}
 use Rattle.model.specs.Refusals.{Answer, fine, refused}
-use Rattle.floor.specs.Sides.{saidSides}
+use Rattle.floor.specs.Sides.{said_sides}
 use Rattle.floor.specs.declared.Pair.{Pair}
-use Rattle.judge.proofs.Passes.{audit-sound}
-use Rattle.judge.proofs.Weighing.{few-requests}
-use Rattle.judge.proofs.Sides.{lent-rents, sides-known, sides-decide}
+use Rattle.judge.proofs.Passes.{audit_sound}
+use Rattle.judge.proofs.Weighing.{few_requests}
+use Rattle.judge.proofs.Sides.{lent_rents, sides_known, sides_decide}
 use Rattle.judge.proofs.weighed.Statement.{statement}
 use Rattle.judge.proofs.weighed.Tie as tie
 
@@ -28,13 +28,13 @@ requests-requires c κs = search rules
 array-share-prefix-rents : tie.Need-array-share-prefix-rents
 array-share-prefix-rents c =
     let s = c.before.before.before.before.before.before.before in
-    let k = few-requests s.args.trace.now s.args.plan.now (audit-sound _ _ s.requires.0) in
+    let k = few_requests s.args.trace.now s.args.plan.now (audit_sound _ _ s.requires.0) in
     omega (arith, k, c.requests.ensures.0)
 
 slice-aggregate-sides : tie.Need-slice-aggregate-sides
 slice-aggregate-sides c =
     let s = c.before.before.before.before.before.before.before.before in
-    let k = few-requests s.args.trace.now s.args.plan.now (audit-sound _ _ s.requires.0) in
+    let k = few_requests s.args.trace.now s.args.plan.now (audit_sound _ _ s.requires.0) in
     simp length-take (omega (arith, k, c.before.requests.ensures.0))
 
 sides-requires : tie.Need-sides-requires
@@ -55,10 +55,10 @@ returns c =
     let s = d.before.before.before.before.before.before.before.before.before in
     let tr = s.args.trace.now in
     let pl = s.args.plan.now in
-    let sound = audit-sound tr pl s.requires.0 in
-    let rs = lent-rents tr pl sound _ _ _ d.before.before.requests.ensures.0 d.before.before.before.before.before.before.rents.ensures
+    let sound = audit_sound tr pl s.requires.0 in
+    let rs = lent_rents tr pl sound _ _ _ d.before.before.requests.ensures.0 d.before.before.before.before.before.before.rents.ensures
     d.before.before.before.before.read-rents.ensures in
-    let k : saidSides d.sides.result ≡ fine _ = sides-known tr pl sound _ _ rs d.sides.ensures in
+    let k : said_sides d.sides.result ≡ fine _ = sides_known tr pl sound _ _ rs d.sides.ensures in
     let e : refused _ _ ≡ fine _ = rw c.before.r.given.1 at k in
     let z : ◌≡◌ {A = ℕ} 0 1 = cc in
     absurd (omega arith)
@@ -69,11 +69,11 @@ returns-2 c =
     let s = d.before.before.before.before.before.before.before.before.before in
     let tr = s.args.trace.now in
     let pl = s.args.plan.now in
-    let sound = audit-sound tr pl s.requires.0 in
-    let rs = lent-rents tr pl sound _ _ _ d.before.before.requests.ensures.0 d.before.before.before.before.before.before.rents.ensures
+    let sound = audit_sound tr pl s.requires.0 in
+    let rs = lent_rents tr pl sound _ _ _ d.before.before.requests.ensures.0 d.before.before.before.before.before.before.rents.ensures
     d.before.before.before.before.read-rents.ensures in
-    let k : saidSides d.sides.result ≡ fine _ = sides-known tr pl sound _ _ rs d.sides.ensures in
-    sides-decide tr pl s.requires.0 _ _ _ (rw c.before.before.pair.given.1 at k) s.requires.1 c.compared.ensures
+    let k : said_sides d.sides.result ≡ fine _ = sides_known tr pl sound _ _ rs d.sides.ensures in
+    sides_decide tr pl s.requires.0 _ _ _ (rw c.before.before.pair.given.1 at k) s.requires.1 c.compared.ensures
 
 pub weighed-spec : {M : Type 1} → statement M
 weighed-spec =

@@ -5,8 +5,8 @@ use native.Mathlib.Omega.{arith}
 use Rattle.decimal.specs.Decimal.{decimal}
 use Rattle.pages.specs.Letters.{letters}
 use Rattle.pages.specs.Pages.{put, write}
-use Rattle.lines.specs.Lines.{acceptedLine}
-use Rattle.lines.proofs.Laws.{three-runs}
+use Rattle.lines.specs.Lines.{accepted_line}
+use Rattle.lines.proofs.Laws.{three_runs}
 use Rattle.lines.proofs.accepted.Statement.{statement}
 use Rattle.lines.proofs.accepted.Tie as tie
 
@@ -23,12 +23,12 @@ byte-requires : tie.Need-byte-requires
 byte-requires c κs = search rules
 
 returns : tie.Need-returns
-unfolding acceptedLine
+unfolding accepted_line
 returns c =
     let word = c.before.before.before.before in
     let digits = c.before.before.lay in
     let a = word.before.before.before.args in
-    three-runs a.line.now _ _ a.cost (letters "accepted ") (omega arith) word.before.before.bytes-arg.given.0.1 (omega arith)
+    three_runs a.line.now _ _ a.cost (letters "accepted ") (omega arith) word.before.before.bytes-arg.given.0.1 (omega arith)
     (c.byte.ensures ∙ ap (λ p. put p 10) (digits.ensures ∙ ap (λ p. write p (decimal a.cost)) word.bytes.ensures))
 
 pub accepted-spec : {M : Type 1} → statement M

@@ -5,8 +5,8 @@ use native.Mathlib.Omega.{arith}
 use Rattle.decimal.specs.Decimal.{decimal}
 use Rattle.pages.specs.Letters.{letters}
 use Rattle.pages.specs.Pages.{put, write}
-use Rattle.lines.specs.Lines.{refusedLine}
-use Rattle.lines.proofs.Laws.{five-runs}
+use Rattle.lines.specs.Lines.{refused_line}
+use Rattle.lines.proofs.Laws.{five_runs}
 use Rattle.lines.proofs.refusal.Statement.{statement}
 use Rattle.lines.proofs.refusal.Tie as tie
 
@@ -32,13 +32,13 @@ byte-requires : tie.Need-byte-requires
 byte-requires c κs = search rules
 
 returns : tie.Need-returns
-unfolding refusedLine
+unfolding refused_line
 returns c =
     let middle = c.before.before.before.before in
     let number = middle.before.before.before in
     let word = number.before.before in
     let a = word.before.before.before.args in
-    five-runs a.line.now _ _ a.number a.place (letters "refused ") (letters " at ") (omega arith) (omega arith)
+    five_runs a.line.now _ _ a.number a.place (letters "refused ") (letters " at ") (omega arith) (omega arith)
     word.before.before.bytes-arg.given.0.1 (omega arith) (omega arith)
     (c.byte.ensures
     ∙ ap (λ p. put p 10)

@@ -4,20 +4,20 @@ use mathlib.Core.Path.{◌≡◌}
 use Prim.Native.Nat.{◌≤◌}
 use native.Mathlib.Omega.{arith}
 use lib.ListN.{length}
-use Rattle.model.specs.Numbers.{maxRequests}
-use Rattle.trace.specs.Answers.{said, checkOf}
+use Rattle.model.specs.Numbers.{max_requests}
+use Rattle.trace.specs.Answers.{said, check_of}
 use Rattle.trace.specs.declared.Checked.TheVariants.{Sound}
-use Rattle.links.proofs.Answered.{filled-refused, few-requests, single, filled-sound}
+use Rattle.links.proofs.Answered.{filled_refused, few_requests, single, filled-sound}
 use Rattle.links.proofs.fill.Statement.{statement}
 use Rattle.links.proofs.fill.Tie as tie
 
 -- the trace is sound: what the header then says of it
 told : (c : tie.After-known-told)
-    → said (Sound c.before.checked.given.0.0) ≡ checkOf c.before.before.before.before.before.args.trace.now
+    → said (Sound c.before.checked.given.0.0) ≡ check_of c.before.before.before.before.before.args.trace.now
 told c = rw c.before.checked.given.1 at c.before.before.before.check.ensures
 
-few : (c : tie.After-known-told) → c.before.checked.given.0.0.requests ≤ maxRequests
-few c = few-requests _ _ (told c)
+few : (c : tie.After-known-told) → c.before.checked.given.0.0.requests ≤ max_requests
+few c = few_requests _ _ (told c)
 
 check-requires : tie.Need-check-requires
 check-requires c κs = search rules
@@ -31,7 +31,7 @@ enum_told c = search rules
 returns : tie.Need-returns
 returns c =
     let e = c.enum_told.given.1 in
-    rw e (filled-refused _ _ _ c.enum_told.given.0.0 (rw e at c.before.before.check.ensures))
+    rw e (filled_refused _ _ _ c.enum_told.given.0.0 (rw e at c.before.before.check.ensures))
 
 read-requires : tie.Need-read-requires
 read-requires c κs = few c
@@ -42,12 +42,12 @@ slice-aggregate-link c = search rules
 link-requires : tie.Need-link-requires
 link-requires c κs =
     let k = c.before.before.before.before in
-    let long : length c.before.before.before.read.result ≡ maxRequests = search rules in
+    let long : length c.before.before.before.read.result ≡ max_requests = search rules in
     record {
       few = few k;
-      all-items = omega (arith, few k);
-      all-next = omega (arith, few k, c.before.link-arg.given.0.1);
-      all-chain = omega (arith, few k, c.link-arg2.given.0.1);
+      all_items = omega (arith, few k);
+      all_next = omega (arith, few k, c.before.link-arg.given.0.1);
+      all_chain = omega (arith, few k, c.link-arg2.given.0.1);
     }
 
 clear-requires : tie.Need-clear-requires

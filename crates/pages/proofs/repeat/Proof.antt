@@ -4,7 +4,7 @@ use mathlib.Core.Path.{◌≡◌, refl}
 use native.Mathlib.Omega.{arith}
 use lib.ListN.{replicate}
 use Rattle.pages.specs.Pages.{filled, write}
-use Rattle.pages.proofs.Laws.{repeat-more, repeat-done, same-long}
+use Rattle.pages.proofs.Laws.{repeat_more, repeat_done, same_long}
 use Rattle.pages.proofs.repeat.Statement.{statement}
 use Rattle.pages.proofs.repeat.Tie as tie
 
@@ -30,16 +30,16 @@ loop-again : tie.Need-loop-preserved invariant-loop decreases-loop
 loop-again c =
     let l = c.before.before.before.before.before.loop in
     let b = c.before.before.byte in
-    repeat-more l.next b.result l.page b.new.0 l.left _ _ (omega arith) b.ensures l.invariant
+    repeat_more l.next b.result l.page b.new.0 l.left _ _ (omega arith) b.ensures l.invariant
 
 same_length : tie.Need-same-length invariant-loop decreases-loop
 same_length c =
     let l = c.before.loop in
     let a = c.before.before.before.args in
-    same-long (filled l.next l.page) (filled a.at a.page.now) (replicate l.left a.b) (replicate a.count a.b) l.invariant
+    same_long (filled l.next l.page) (filled a.at a.page.now) (replicate l.left a.b) (replicate a.count a.b) l.invariant
 
 returns : tie.Need-returns invariant-loop decreases-loop
-returns c = repeat-done _ _ c.before.loop.left _ _ c.loop-test.false c.before.loop.invariant
+returns c = repeat_done _ _ c.before.loop.left _ _ c.loop-test.false c.before.loop.invariant
 
 pub repeat-spec : {M : Type 1} → statement M
 repeat-spec =

@@ -5,16 +5,16 @@ use Prim.Native.Nat.{◌+◌, ◌/◌, ◌≤◌, ◌-◌, min}
 use native.Mathlib.Numerals.{add-one}
 use native.Mathlib.Omega.{arith}
 use lib.ListN.{length}
-use Rattle.fields.specs.Bytes.{putFront}
+use Rattle.fields.specs.Bytes.{put_front}
 use Rattle.model.specs.Links.{listed}
-use Rattle.plan.specs.PlanFile.{rentIn}
-use Rattle.plan.proofs.Reading.{length-put, put_one, put-fewer}
+use Rattle.plan.specs.PlanFile.{rent_in}
+use Rattle.plan.proofs.Reading.{length-put, put_one, put_fewer}
 use Rattle.plan.proofs.read_rents.Statement.{statement}
 use Rattle.plan.proofs.read_rents.Tie as tie
 
 abbrev invariant-loop : tie.invariant-loop
 invariant-loop part out₀ n t₀ out t =
-    (n ≡ min (length part / 4) (length out₀)) × (t ≤ n) × (out ≡ putFront (listed (rentIn part) t 0) out₀)
+    (n ≡ min (length part / 4) (length out₀)) × (t ≤ n) × (out ≡ put_front (listed (rent_in part) t 0) out₀)
 
 abbrev decreases-loop : tie.decreases-loop
 decreases-loop part out₀ n t₀ out t = n - t
@@ -49,7 +49,7 @@ loop-again c =
     let l = c.before.before.loop in
     let a = c.before.before.before.before.before.before.args in
     let z : 0 + l.t ≡ l.t = omega arith in
-    (l.invariant.0, search rules, rw (add-one, l.invariant.2, c.rent.ensures.0) (rw z at (put_one (rentIn a.part.now) l.t 0 a.out.now (omega arith))))
+    (l.invariant.0, search rules, rw (add-one, l.invariant.2, c.rent.ensures.0) (rw z at (put_one (rent_in a.part.now) l.t 0 a.out.now (omega arith))))
 
 same_length : tie.Need-same-length invariant-loop decreases-loop
 same_length c = ap length c.before.loop.invariant.2 ∙ length-put (listed _ c.before.loop.t 0) _
@@ -59,7 +59,7 @@ returns c =
     let l = c.before.loop in
     let a = c.before.before.before.before.before.args in
     let e : l.t ≡ min (length a.part.now / 4) (length a.out.now) = omega arith in
-    l.invariant.2 ∙ (rw e (put-fewer (rentIn a.part.now) (length a.part.now / 4) 0 a.out.now))
+    l.invariant.2 ∙ (rw e (put_fewer (rent_in a.part.now) (length a.part.now / 4) 0 a.out.now))
 
 pub read-rents-spec : {M : Type 1} → statement M
 read-rents-spec =

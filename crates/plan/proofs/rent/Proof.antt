@@ -2,7 +2,7 @@
 use mathlib.Core.Path.{sym}
 use Prim.Native.Nat.{◌*◌}
 use native.Mathlib.Omega.{arith}
-use Rattle.fields.proofs.Numbers.{num-past}
+use Rattle.fields.proofs.Numbers.{num_past}
 use borrow.Author.Rules.{rules}
 use Rattle.plan.proofs.rent.Statement.{statement}
 use Rattle.plan.proofs.rent.Tie as tie
@@ -15,7 +15,7 @@ u32-at-requires c κs = search rules
 
 returns : tie.Need-returns
 returns c = let a = c.before.before.args in
-    (sym (num-past 4 (4 * a.t) a.part.now (omega arith)), omega arith)
+    (sym (num_past 4 (4 * a.t) a.part.now (omega arith)), omega arith)
 
 returns-2 : tie.Need-returns-2
 returns-2 c = search rules

@@ -3,9 +3,9 @@ use mathlib.Core.Path.{◌≡◌, sym}
 use Prim.Native.Nat.{◌+◌, ◌-◌, ◌*◌}
 use native.Mathlib.Omega.{arith}
 use lib.ListN.{length}
-use Rattle.trace.specs.TraceFile.{requestsAt}
+use Rattle.trace.specs.TraceFile.{requests_at}
 use Rattle.plan.proofs.Sound.{SoundPlan}
-use Rattle.plan.proofs.Sections.{section-sound}
+use Rattle.plan.proofs.Sections.{section_sound}
 use borrow.Author.Rules.{rules}
 use Rattle.plan.proofs.rents.Statement.{statement}
 use Rattle.plan.proofs.rents.Tie as tie
@@ -26,10 +26,10 @@ requests-requires : tie.Need-requests-requires
 requests-requires c κs = search rules
 
 -- the plan has none of 1 to 12
-sound : (c : tie.After-requests) → let a = c.before.before.before.before.before.before.args in SoundPlan (requestsAt a.trace.now) a.plan.now
+sound : (c : tie.After-requests) → let a = c.before.before.before.before.before.before.args in SoundPlan (requests_at a.trace.now) a.plan.now
 sound c =
     let d = c.before.before.before in
-    section-sound _ _ (sym (rw c.before.enum-told2.given.1 at d.refusal.ensures))
+    section_sound _ _ (sym (rw c.before.enum-told2.given.1 at d.refusal.ensures))
 
 add_start : tie.Need-overflow-add-start
 add_start c = search rules

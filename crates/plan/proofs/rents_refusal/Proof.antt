@@ -6,13 +6,13 @@ use Prim.Native.Nat.{◌≤◌, ◌-◌}
 use native.Mathlib.Numerals.{add-one}
 use native.Mathlib.Omega.{arith}
 use lib.ListN.{length, drop, drop_of_length-le}
-use Rattle.plan.specs.PlanFile.{rentsTried}
-use Rattle.plan.proofs.Reading.{rents-step}
+use Rattle.plan.specs.PlanFile.{rents_tried}
+use Rattle.plan.proofs.Reading.{rents_step}
 use Rattle.plan.proofs.rents_refusal.Statement.{statement}
 use Rattle.plan.proofs.rents_refusal.Tie as tie
 
 abbrev invariant-loop : tie.invariant-loop
-invariant-loop rents t₀ t = (t ≤ length rents) × (rentsTried t (drop t rents) ≡ rentsTried 0 rents)
+invariant-loop rents t₀ t = (t ≤ length rents) × (rents_tried t (drop t rents) ≡ rents_tried 0 rents)
 
 abbrev decreases-loop : tie.decreases-loop
 decreases-loop rents t₀ t = length rents - t
@@ -36,7 +36,7 @@ returns : tie.Need-returns invariant-loop decreases-loop
 returns c =
     let l = c.before.before.before.loop in
     let rs = c.before.before.before.before.args.rents.now in
-    let e = rents-step l.t rs c.before.before.loop-test.true in
+    let e = rents_step l.t rs c.before.before.loop-test.true in
     rw add-one (sym (rw (lt-ltb _ _ c.if1.true) at e) ∙ l.invariant.1)
 
 add-t : tie.Need-overflow-add-t invariant-loop decreases-loop
@@ -49,7 +49,7 @@ loop-again : tie.Need-loop-preserved invariant-loop decreases-loop
 loop-again c =
     let l = c.before.before.before.loop in
     let rs = c.before.before.before.before.args.rents.now in
-    let e = rents-step l.t rs c.before.before.loop-test.true in
+    let e = rents_step l.t rs c.before.before.loop-test.true in
     (search rules, rw add-one (sym (rw (le-ltb _ _ c.if1.false) at e) ∙ l.invariant.1))
 
 returns-2 : tie.Need-returns-2 invariant-loop decreases-loop

@@ -1,9 +1,9 @@
 -- By what happens at the request.
 use borrow.Author.Rules.{rules}
 use mathlib.Core.Path.{sym, ◌∙◌, ap}
-use Rattle.pages.proofs.Laws.{lies-none}
-use Rattle.sentences.proofs.Answering.{fine-page, refused-page}
-use Rattle.schedule.specs.Schedule.{said, hereLine}
+use Rattle.pages.proofs.Laws.{lies_none}
+use Rattle.sentences.proofs.Answering.{fine_page, refused_page}
+use Rattle.schedule.specs.Schedule.{said, here_line}
 use Rattle.schedule.proofs.request.Statement.{statement}
 use Rattle.schedule.proofs.request.Tie as tie
 
@@ -31,15 +31,15 @@ refusal-requires c κs = search rules
 returns : tie.Need-returns
 returns c =
     let s = c.before.before.before in
-    fine-page _ hereLine (sym (ap said s.s.given.1) ∙ s.before.before.step_of_lem.ensures) c.row.ensures
+    fine_page _ here_line (sym (ap said s.s.given.1) ∙ s.before.before.step_of_lem.ensures) c.row.ensures
 
 returns-2 : tie.Need-returns-2
-returns-2 c = fine-page _ hereLine (sym (ap said c.enum_told.given.1) ∙ c.before.before.step_of_lem.ensures) (lies-none _)
+returns-2 c = fine_page _ here_line (sym (ap said c.enum_told.given.1) ∙ c.before.before.step_of_lem.ensures) (lies_none _)
 
 returns-3 : tie.Need-returns-3
 returns-3 c =
     let r = c.before.before.before.before in
-    refused-page _ hereLine c.before.before.slots.ensures.0 (sym (ap said r.r.given.1) ∙ r.before.before.step_of_lem.ensures) c.refusal.ensures
+    refused_page _ here_line c.before.before.slots.ensures.0 (sym (ap said r.r.given.1) ∙ r.before.before.step_of_lem.ensures) c.refusal.ensures
 
 pub request-spec : {M : Type 1} → statement M
 request-spec =

@@ -3,10 +3,10 @@ use borrow.Author.Rules.{rules}
 use mathlib.Core.Path.{◌≡◌, sym, ◌∙◌, ap}
 use native.Mathlib.Omega.{arith}
 use Rattle.model.specs.Refusals.{passes, fine}
-use Rattle.audit.specs.Audit.{auditTried}
+use Rattle.audit.specs.Audit.{audit_tried}
 use Rattle.audit.specs.Audit.{said as saidAudited}
 use Rattle.schedule.specs.Schedule.{at}
-use Rattle.schedule.proofs.Steps.{audit-sound, stepped-off, stepped-at, stepped-past}
+use Rattle.schedule.proofs.Steps.{audit_sound, stepped_off, stepped-at, stepped-past}
 use Rattle.schedule.proofs.step_of.Statement.{statement}
 use Rattle.schedule.proofs.step_of.Tie as tie
 
@@ -20,10 +20,10 @@ enum_told : tie.Need-enum-told
 enum_told c = search rules
 
 -- where it has totals
-sound : (c : tie.After-enum-told) → let a = c.before.before.before.before.before.args in auditTried a.trace.now a.plan.now ≡ passes
+sound : (c : tie.After-enum-told) → let a = c.before.before.before.before.before.args in audit_tried a.trace.now a.plan.now ≡ passes
 sound c =
     let a = c.before.before.before.before.before.args in
-    audit-sound a.trace.now a.plan.now a.t _ (sym (ap saidAudited c.enum_told.given.1) ∙ c.before.before.audit.ensures)
+    audit_sound a.trace.now a.plan.now a.t _ (sym (ap saidAudited c.enum_told.given.1) ∙ c.before.before.audit.ensures)
 
 requests-requires : tie.Need-requests-requires
 requests-requires c κs = search rules
@@ -42,7 +42,7 @@ returns-2 : tie.Need-returns-2
 returns-2 c =
     let d = c.before in
     let a = d.before.before.before.before.before.args in
-    stepped-off a.trace.now a.plan.now a.t _ _ (sym (ap saidAudited d.r.given.1) ∙ d.before.before.audit.ensures)
+    stepped_off a.trace.now a.plan.now a.t _ _ (sym (ap saidAudited d.r.given.1) ∙ d.before.before.audit.ensures)
 
 returns-3 : tie.Need-returns-3
 returns-3 c =

@@ -1,8 +1,8 @@
 -- Spaces, then digits.
 use borrow.Author.Rules.{rules}
 use native.Mathlib.Omega.{arith}
-use Rattle.decimal.proofs.Laws.{at-most-twenty}
-use Rattle.sentences.proofs.Signs.{signed-column}
+use Rattle.decimal.proofs.Laws.{at_most_twenty}
+use Rattle.sentences.proofs.Signs.{signed_column}
 use Rattle.sentences.proofs.column.Statement.{statement}
 use Rattle.sentences.proofs.column.Tie as tie
 
@@ -15,7 +15,7 @@ count-requires c κs = search rules
 add-needed : tie.Need-overflow-add-needed
 add-needed c =
     let s = c.before.before.before.before in
-    omega (arith, c.before.count.ensures, at-most-twenty s.args.n (omega arith), s.requires.over)
+    omega (arith, c.before.count.ensures, at_most_twenty s.args.n (omega arith), s.requires.over)
 
 less-requires : tie.Need-less-requires
 less-requires c κs = search rules
@@ -44,7 +44,7 @@ returns c =
     let spaces = digits.before.before.before.before in
     let k = spaces.before.before.before.before in
     let a = k.before.before.before.args in
-    signed-column a.pen a.n _ _ _ _ _ _ _ k.count.ensures digits.lay.ensures _ _
+    signed_column a.pen a.n _ _ _ _ _ _ _ k.count.ensures digits.lay.ensures _ _
     spaces.before.less.ensures spaces.repeat.ensures c.before.less2.ensures c.at-most-256.ensures
 
 pub column-spec : {M : Type 1} → statement M

@@ -2,8 +2,8 @@
 use borrow.Author.Rules.{rules}
 use mathlib.Core.Path.{refl}
 use borrow.Author.Tests.{eq-eqb, ne_eqb}
-use Rattle.sentences.specs.Sentences.{refusalPage}
-use Rattle.sentences.proofs.Fitting.{laid-whole}
+use Rattle.sentences.specs.Sentences.{refusal_page}
+use Rattle.sentences.proofs.Fitting.{laid_whole}
 use Rattle.sentences.proofs.refusal.Statement.{statement}
 use Rattle.sentences.proofs.refusal.Tie as tie
 
@@ -11,7 +11,7 @@ crowded-requires : tie.Need-crowded-requires
 crowded-requires c κs = search rules
 
 returns : tie.Need-returns
-unfolding refusalPage
+unfolding refusal_page
 returns c = rw (eq-eqb _ _ c.before.before.if1.true) c.crowded.ensures
 
 slice-aggregate-lay : tie.Need-slice-aggregate-lay
@@ -24,8 +24,8 @@ lay-requires : tie.Need-lay-requires
 lay-requires c κs = search rules
 
 returns-2 : tie.Need-returns-2
-unfolding refusalPage
-returns-2 c = rw (ne_eqb _ _ c.before.before.before.before.if1.false) (laid-whole refl c.lay.ensures)
+unfolding refusal_page
+returns-2 c = rw (ne_eqb _ _ c.before.before.before.before.if1.false) (laid_whole refl c.lay.ensures)
 
 pub refusal-spec : {M : Type 1} → statement M
 refusal-spec =

@@ -2,7 +2,7 @@
 use borrow.Author.Rules.{rules}
 use mathlib.Core.Path.{refl}
 use Rattle.sentences.specs.Signed.{state_of}
-use Rattle.sentences.proofs.Signs.{sign-choice, sign-bar, sign-end, sign-hidden, sign-shown}
+use Rattle.sentences.proofs.Signs.{sign_choice, sign-bar, sign-end, sign-hidden, sign-shown}
 use Rattle.sentences.proofs.sign.Statement.{statement}
 use Rattle.sentences.proofs.sign.Tie as tie
 
@@ -12,7 +12,7 @@ add-to c = search rules
 returns : tie.Need-returns
 returns c =
     let a = c.before.before.before.args in
-    rw (sign-choice (state_of a.pen) a.b a.next a.n c.before.if1.true) (record { state = refl; page = refl })
+    rw (sign_choice (state_of a.pen) a.b a.next a.n c.before.if1.true) (record { state = refl; page = refl })
 
 next-word-requires : tie.Need-next-word-requires
 next-word-requires c κs = search rules

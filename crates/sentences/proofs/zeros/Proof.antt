@@ -1,6 +1,6 @@
 -- Zeros, then digits.
 use borrow.Author.Rules.{rules}
-use Rattle.sentences.proofs.Signs.{signed-zeros}
+use Rattle.sentences.proofs.Signs.{signed_zeros}
 use Rattle.sentences.proofs.zeros.Statement.{statement}
 use Rattle.sentences.proofs.zeros.Tie as tie
 
@@ -31,7 +31,7 @@ returns c =
     let front = digits.before.before.before.before in
     let k = front.before.before in
     let a = k.before.before.before.before.args in
-    signed-zeros a.pen a.n _ _ _ _ _ _ _ k.count.ensures digits.lay.ensures front.before.less.ensures front.repeat.ensures
+    signed_zeros a.pen a.n _ _ _ _ _ _ _ k.count.ensures digits.lay.ensures front.before.less.ensures front.repeat.ensures
 
 pub zeros-spec : {M : Type 1} → statement M
 zeros-spec =

@@ -1,7 +1,7 @@
 -- The trace is refused, or the buffer is too short, or the plan is written.
 use native.Mathlib.Omega.{arith}
 use mathlib.Core.Path.{refl}
-use Rattle.solver.proofs.Solving.{refused-permitted, opened-few, opened-header, short-permitted, opened-ready, accepted-permitted}
+use Rattle.solver.proofs.Solving.{refused_permitted, opened_few, opened_header, short-permitted, opened-ready, accepted-permitted}
 use borrow.Author.Rules.{rules}
 use Rattle.solver.proofs.solve.Statement.{statement}
 use Rattle.solver.proofs.solve.Tie as tie
@@ -16,10 +16,10 @@ enum-known-h : tie.Need-enum-known-h
 enum-known-h c = search rules
 
 mul-if1 : tie.Need-overflow-mul-if1
-mul-if1 c = let f = rw c.before.before.h.given.1 at c.before.before.before.before.begin.ensures in omega (arith, opened-few f)
+mul-if1 c = let f = rw c.before.before.h.given.1 at c.before.before.before.before.begin.ensures in omega (arith, opened_few f)
 
 add-if1 : tie.Need-overflow-add-if1
-add-if1 c = let f = rw c.before.before.h.given.1 at c.before.before.before.before.begin.ensures in omega (arith, opened-few f)
+add-if1 c = let f = rw c.before.before.h.given.1 at c.before.before.before.before.begin.ensures in omega (arith, opened_few f)
 
 returns : tie.Need-returns
 returns c =
@@ -29,12 +29,12 @@ returns c =
 write-least-requires : tie.Need-write-least-requires
 write-least-requires c κs =
     let f = rw c.before.before.before.before.before.before.before.h.given.1 at c.before.before.before.before.before.before.before.before.before.begin.ensures in
-    (opened-ready f c.before.before.before.before.before.before.before.before.before.before.before.before.before.before.before.args.buffer.now (omega arith) refl, opened-header f)
+    (opened-ready f c.before.before.before.before.before.before.before.before.before.before.before.before.before.before.before.args.buffer.now (omega arith) refl, opened_header f)
 
 returns-2 : tie.Need-returns-2
 returns-2 c =
     let f = rw c.before.r.given.1 at c.before.before.before.begin.ensures in
-    refused-permitted c.before.before.before.before.before.before.before.before.before.args.buffer.now f
+    refused_permitted c.before.before.before.before.before.before.before.before.before.args.buffer.now f
 
 same_length : tie.Need-same-length
 same_length c = search rules

@@ -3,7 +3,7 @@ use mathlib.Core.Path.{◌≡◌, refl, sym}
 use Prim.Native.Nat.{◌-◌}
 use native.Mathlib.Omega.{arith}
 use borrow.Author.Rules.{rules}
-use Rattle.floor.proofs.Passed.{Passed, passed_start, passed-all, at_suc, next-range, Due, due, Done, done, passed-step}
+use Rattle.floor.proofs.Passed.{Passed, passed_start, passed_all, at_suc, next_range, Due, due, Done, done, passed-step}
 use Rattle.floor.proofs.pass.leasts.Statement.{statement}
 use Rattle.floor.proofs.pass.leasts.Tie as tie
 
@@ -48,16 +48,16 @@ element-copy-out-u c =
 cast-u : tie.Need-overflow-cast-u invariant-loop decreases-loop
 cast-u c =
     let r = c.before.before.before.before.before.before.before.requires.0 in
-    omega (arith, r.sound.requests, next-range r (c.before.before.before.loop.t - 1) (omega arith))
+    omega (arith, r.sound.requests, next_range r (c.before.before.before.loop.t - 1) (omega arith))
 
 slice-aggregate-at : tie.Need-slice-aggregate-at invariant-loop decreases-loop
-slice-aggregate-at c = sym c.before.before.before.before.loop.invariant.long-out
+slice-aggregate-at c = sym c.before.before.before.before.loop.invariant.long_out
 
 at-requires : tie.Need-at-requires invariant-loop decreases-loop
 at-requires c κs = search rules
 
 slice-aggregate-at-2 : tie.Need-slice-aggregate-at-2 invariant-loop decreases-loop
-slice-aggregate-at-2 c = sym c.before.before.before.before.before.before.loop.invariant.long-held
+slice-aggregate-at-2 c = sym c.before.before.before.before.before.before.loop.invariant.long_held
 
 at-requires-2 : tie.Need-at-requires-2 invariant-loop decreases-loop
 at-requires-2 c κs = search rules
@@ -118,7 +118,7 @@ returns : tie.Need-returns invariant-loop decreases-loop
 returns c =
     let l = c.before.loop in
     let q : l.t ≡ 0 = omega arith in
-    passed-all (rw q at l.invariant)
+    passed_all (rw q at l.invariant)
 
 pub leasts-spec : {M : Type 1} → statement M
 leasts-spec =

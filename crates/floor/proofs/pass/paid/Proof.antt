@@ -5,13 +5,13 @@ use native.Mathlib.Omega.{arith}
 use native.Mathlib.Numerals.{add-one}
 use lib.ListN.{length}
 use borrow.Author.Rules.{rules}
-use Rattle.model.specs.Plans.{rentsIn}
-use Rattle.floor.specs.Pass.{paidTo}
+use Rattle.model.specs.Plans.{rents_in}
+use Rattle.floor.specs.Pass.{paid_to}
 use Rattle.floor.proofs.pass.paid.Statement.{statement}
 use Rattle.floor.proofs.pass.paid.Tie as tie
 
 abbrev invariant-loop : tie.invariant-loop
-invariant-loop rents sum₀ t₀ sum t = (t ≤ length rents) × (sum ≤ 2000000 * t) × (sum ≡ paidTo (rentsIn rents) t)
+invariant-loop rents sum₀ t₀ sum t = (t ≤ length rents) × (sum ≤ 2000000 * t) × (sum ≡ paid_to (rents_in rents) t)
 
 abbrev decreases-loop : tie.decreases-loop
 decreases-loop rents sum₀ t₀ sum t = length rents - t

@@ -5,7 +5,7 @@ use mathlib.Core.Logic.{⊎_elim}
 use native.Mathlib.Omega.{arith}
 use borrow.Author.Rules.{rules}
 use lib.ListN.{length, length-set}
-use Rattle.frontier.proofs.Turns.{Keeping, keep-begin, keep-drop, keep_one}
+use Rattle.frontier.proofs.Turns.{Keeping, keep_begin, keep_drop, keep_one}
 use Rattle.frontier.proofs.passes.keep.Statement.{statement}
 use Rattle.frontier.proofs.passes.keep.Tie as tie
 
@@ -20,7 +20,7 @@ cast-low : tie.Need-overflow-cast-low invariant-loop decreases-loop
 cast-low c = search rules
 
 loop-holds : tie.Need-loop-init invariant-loop decreases-loop
-loop-holds c = (omega arith, omega arith, refl, keep-begin _ _ _)
+loop-holds c = (omega arith, omega arith, refl, keep_begin _ _ _)
 
 mul-v : tie.Need-overflow-mul-v invariant-loop decreases-loop
 mul-v c = search rules
@@ -57,7 +57,7 @@ loop-again c =
     (λ w. rw (w.2, w.3, w.4) (omega arith, omega arith, simp length-set long, keep_one S h (omega arith) (omega arith)))
     (⊎_elim
     (λ w. rw (w.2, w.3, w.4) (omega arith, omega arith, simp length-set long, keep_one S h (omega arith) (omega arith)))
-    (λ w. rw (w.1, w.2, w.3) (omega arith, omega arith, long, keep-drop S h (omega arith)))) c.if1.branch
+    (λ w. rw (w.1, w.2, w.3) (omega arith, omega arith, long, keep_drop S h (omega arith)))) c.if1.branch
 
 same_length : tie.Need-same-length invariant-loop decreases-loop
 same_length c = search rules

@@ -1,7 +1,7 @@
 -- Each answer has its page.
 use borrow.Author.Rules.{rules}
 use mathlib.Core.Path.{refl}
-use Rattle.sentences.proofs.Fitting.{laid-whole}
+use Rattle.sentences.proofs.Fitting.{laid_whole}
 use Rattle.glazepouch.proofs.said.lay_least.Statement.{statement}
 use Rattle.glazepouch.proofs.said.lay_least.Tie as tie
 
@@ -24,7 +24,7 @@ refusal-requires : tie.Need-refusal-requires
 refusal-requires c κs = search rules
 
 returns : tie.Need-returns
-returns c = rw c.before.before.before.before.before.found.given.1 (laid-whole refl c.lay.ensures)
+returns c = rw c.before.before.before.before.before.found.given.1 (laid_whole refl c.lay.ensures)
 
 returns-2 : tie.Need-returns-2
 returns-2 c = rw c.before.before.before.found2.given.1 c.refusal.ensures

@@ -1,7 +1,7 @@
 -- What is printed is what was laid.
 use borrow.Author.Rules.{rules}
 use Rattle.solver.specs.Solve.{said}
-use Rattle.glazepouch.proofs.Telling.{told-page}
+use Rattle.glazepouch.proofs.Telling.{told_page}
 use Rattle.glazepouch.proofs.said.least.Statement.{statement}
 use Rattle.glazepouch.proofs.said.least.Tie as tie
 
@@ -15,7 +15,7 @@ print-least-requires : tie.Need-print-least-requires
 print-least-requires c κs =
     let l = c.before.before in
     let s = l.before.before.before in
-    told-page s.args.trace.now (said s.args.found) s.requires l.lay-least.ensures c.shown.ensures
+    told_page s.args.trace.now (said s.args.found) s.requires l.lay-least.ensures c.shown.ensures
 
 returns : tie.Need-returns
 returns c = search rules

@@ -1,7 +1,7 @@
 -- What is printed is what was laid.
 use borrow.Author.Rules.{rules}
 use mathlib.Core.Path.{◌∙◌}
-use Rattle.pages.proofs.Laws.{lies-first}
+use Rattle.pages.proofs.Laws.{lies_first}
 use Rattle.glazepouch.proofs.said.tell.Statement.{statement}
 use Rattle.glazepouch.proofs.said.tell.Tie as tie
 
@@ -12,7 +12,7 @@ shown-requires : tie.Need-shown-requires
 shown-requires c κs = search rules
 
 print-part-requires : tie.Need-print-part-requires
-print-part-requires c κs = c.shown.ensures ∙ lies-first c.before.before.lay-part.ensures
+print-part-requires c κs = c.shown.ensures ∙ lies_first c.before.before.lay-part.ensures
 
 returns : tie.Need-returns
 returns c = search rules

@@ -2,7 +2,7 @@
 use mathlib.Core.Path.{◌∙◌}
 use mathlib.Core.Logic.{⊎_elim}
 use borrow.Author.Rules.{rules}
-use Rattle.lanes.proofs.Drawing.{place-held, place-dropped, place-new}
+use Rattle.lanes.proofs.Drawing.{place_held, place_dropped, place_new}
 use Rattle.lanes.proofs.rows.place.Statement.{statement}
 use Rattle.lanes.proofs.rows.place.Tie as tie
 
@@ -29,7 +29,7 @@ returns c =
     let d = c.before.before.before.before.before in
     let a = d.before.before.before.before.before.args in
     c.row.ensures
-    ∙ place-held a.flags.now a.prev.now a.busy.now a.rows.now a.t _ d.wide.ensures c.before.before.before.before.if1.true c.before.before.if2.true
+    ∙ place_held a.flags.now a.prev.now a.busy.now a.rows.now a.t _ d.wide.ensures c.before.before.before.before.if1.true c.before.before.if2.true
 
 free-requires : tie.Need-free-requires
 free-requires c κs = search rules
@@ -40,8 +40,8 @@ returns-2 c =
     let a = d.before.before.before.before.before.args in
     c.free.ensures
     ∙ ⊎_elim
-    (λ w. place-dropped a.flags.now a.prev.now a.busy.now a.rows.now a.t _ d.wide.ensures w.0.taken w.2.left)
-    (λ w. place-new a.flags.now a.prev.now a.busy.now a.rows.now a.t _ d.wide.ensures w.left)
+    (λ w. place_dropped a.flags.now a.prev.now a.busy.now a.rows.now a.t _ d.wide.ensures w.0.taken w.2.left)
+    (λ w. place_new a.flags.now a.prev.now a.busy.now a.rows.now a.t _ d.wide.ensures w.left)
     c.before.if1.branch
 
 pub place-spec : {M : Type 1} → statement M

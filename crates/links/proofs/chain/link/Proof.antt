@@ -1,6 +1,6 @@
 -- `links::chain::link` meets its contract: the requests from t on are chained and have their next requests. Assumes nothing.
 use borrow.Author.Rules.{rules}
-use Rattle.links.proofs.Chains.{Linking, link-starts, link-back, link-ready, link-steps, link-ends}
+use Rattle.links.proofs.Chains.{Linking, link_starts, link_back, link_ready, link_steps, link_ends}
 use Rattle.links.proofs.chain.link.Statement.{statement}
 use Rattle.links.proofs.chain.link.Tie as tie
 
@@ -14,7 +14,7 @@ cast-head : tie.Need-overflow-cast-head invariant-loop decreases-loop
 cast-head c = search rules
 
 loop-holds : tie.Need-loop-init invariant-loop decreases-loop
-loop-holds c = link-starts c.before.before.before.requires
+loop-holds c = link_starts c.before.before.before.requires
 
 sub-t : tie.Need-overflow-sub-t invariant-loop decreases-loop
 sub-t c = search rules
@@ -34,8 +34,8 @@ wide-requires c κs = search rules
 walk-requires : tie.Need-walk-requires invariant-loop decreases-loop
 walk-requires c κs =
     let d = c.before.before.before in
-    let w = link-back d.before.loop.invariant d.loop-test.true in
-    rw (c.wide.ensures, c.before.before.bucket.ensures.0) (link-ready d.before.before.before.before.before.requires w)
+    let w = link_back d.before.loop.invariant d.loop-test.true in
+    rw (c.wide.ensures, c.before.before.bucket.ensures.0) (link_ready d.before.before.before.before.before.requires w)
 
 cast-next : tie.Need-overflow-cast-next invariant-loop decreases-loop
 cast-next c = search rules
@@ -67,9 +67,9 @@ loop-less c = search rules
 loop-again : tie.Need-loop-preserved invariant-loop decreases-loop
 loop-again c =
     let d = c.before.before.before.before in
-    let w = link-back d.before.loop.invariant d.loop-test.true in
+    let w = link_back d.before.loop.invariant d.loop-test.true in
     rw c.before.before.before.bucket.ensures.0
-    (link-steps d.before.before.before.before.before.requires w c.walk.result c.walk.ensures)
+    (link_steps d.before.before.before.before.before.requires w c.walk.result c.walk.ensures)
 
 same_length : tie.Need-same-length invariant-loop decreases-loop
 same_length c = search rules
@@ -78,7 +78,7 @@ same-length-2 : tie.Need-same-length-2 invariant-loop decreases-loop
 same-length-2 c = search rules
 
 returns : tie.Need-returns invariant-loop decreases-loop
-returns c = link-ends c.before.loop.invariant c.loop-test.false
+returns c = link_ends c.before.loop.invariant c.loop-test.false
 
 pub link-spec : {M : Type 1} → statement M
 link-spec =

@@ -2,7 +2,7 @@
 use borrow.Author.Rules.{rules}
 use Prim.Native.Nat.{◌-◌}
 use native.Mathlib.Omega.{arith}
-use Rattle.links.proofs.Chains.{Walking, walk-starts, walk_steps, walk-finds, walk_ends}
+use Rattle.links.proofs.Chains.{Walking, walk_starts, walk_steps, walk_finds, walk_ends}
 use Rattle.links.proofs.chain.walk.Statement.{statement}
 use Rattle.links.proofs.chain.walk.Tie as tie
 
@@ -19,7 +19,7 @@ shared-slice-read-item : tie.Need-shared-slice-read-item invariant-loop decrease
 shared-slice-read-item c = search rules
 
 loop-holds : tie.Need-loop-init invariant-loop decreases-loop
-loop-holds c = walk-starts c.before.before.before.requires
+loop-holds c = walk_starts c.before.before.before.requires
 
 mul-if1 : tie.Need-overflow-mul-if1 invariant-loop decreases-loop
 mul-if1 c = search rules
@@ -28,7 +28,7 @@ shared-slice-read-if1 : tie.Need-shared-slice-read-if1 invariant-loop decreases-
 shared-slice-read-if1 c = search rules
 
 returns : tie.Need-returns invariant-loop decreases-loop
-returns c = walk-finds c.before.before.before.loop.invariant c.if1.true
+returns c = walk_finds c.before.before.before.loop.invariant c.if1.true
 
 mul_wide : tie.Need-overflow-mul-wide invariant-loop decreases-loop
 mul_wide c = search rules

@@ -1,7 +1,7 @@
 -- `links::items::read` meets its contract: the places passed have their items. Assumes nothing.
 use borrow.Author.Rules.{rules}
 use Prim.Native.Nat.{◌-◌}
-use Rattle.links.proofs.Readings.{Reading, read-starts, read-steps, read-ends}
+use Rattle.links.proofs.Readings.{Reading, read_starts, read_steps, read_ends}
 use Rattle.links.proofs.items.read.Statement.{statement}
 use Rattle.links.proofs.items.read.Tie as tie
 
@@ -12,7 +12,7 @@ abbrev decreases-loop : tie.decreases-loop
 decreases-loop trace n items₀ t₀ items t = n - t
 
 loop-holds : tie.Need-loop-init invariant-loop decreases-loop
-loop-holds c = read-starts
+loop-holds c = read_starts
 
 item-requires : tie.Need-item-requires invariant-loop decreases-loop
 item-requires c κs = search rules
@@ -34,10 +34,10 @@ loop-less c = search rules
 
 loop-again : tie.Need-loop-preserved invariant-loop decreases-loop
 loop-again c =
-    read-steps c.item.result c.before.before.before.before.requires c.before.loop-test.true c.item.ensures.0 c.before.before.loop.invariant
+    read_steps c.item.result c.before.before.before.before.requires c.before.loop-test.true c.item.ensures.0 c.before.before.loop.invariant
 
 returns : tie.Need-returns invariant-loop decreases-loop
-returns c = read-ends c.before.loop.invariant c.loop-test.false
+returns c = read_ends c.before.loop.invariant c.loop-test.false
 
 pub read_spec : {M : Type 1} → statement M
 read_spec =

@@ -1,7 +1,7 @@
 -- `links::turn::clear` meets its contract: the places passed have none. Assumes nothing.
 use borrow.Author.Rules.{rules}
 use Prim.Native.Nat.{◌-◌}
-use Rattle.links.proofs.Turns.{Clearing, clear-starts, clear-steps}
+use Rattle.links.proofs.Turns.{Clearing, clear_starts, clear_steps}
 use Rattle.links.proofs.turn.clear.Statement.{statement}
 use Rattle.links.proofs.turn.clear.Tie as tie
 
@@ -15,7 +15,7 @@ cast-none : tie.Need-overflow-cast-none invariant-loop decreases-loop
 cast-none c = search rules
 
 loop-holds : tie.Need-loop-init invariant-loop decreases-loop
-loop-holds c = clear-starts
+loop-holds c = clear_starts
 
 mul-prev : tie.Need-overflow-mul-prev invariant-loop decreases-loop
 mul-prev c = search rules
@@ -30,7 +30,7 @@ loop-less : tie.Need-loop-smaller invariant-loop decreases-loop
 loop-less c = search rules
 
 loop-again : tie.Need-loop-preserved invariant-loop decreases-loop
-loop-again c = clear-steps c.before.before.requires.1 c.loop-test.true c.before.loop.invariant
+loop-again c = clear_steps c.before.before.requires.1 c.loop-test.true c.before.loop.invariant
 
 same_length : tie.Need-same-length invariant-loop decreases-loop
 same_length c = search rules

@@ -3,7 +3,7 @@ use borrow.Author.Rules.{rules}
 use mathlib.Core.Logic.{⊎_elim}
 use Prim.Native.Nat.{◌-◌}
 use native.Mathlib.Omega.{arith}
-use Rattle.links.proofs.Turns.{Turning, turn-starts, turn-passes, turn-lays, turn-ends}
+use Rattle.links.proofs.Turns.{Turning, turn_starts, turn_passes, turn_lays, turn_ends}
 use Rattle.links.proofs.turn.turn.Statement.{statement}
 use Rattle.links.proofs.turn.turn.Tie as tie
 
@@ -14,7 +14,7 @@ abbrev decreases-loop : tie.decreases-loop
 decreases-loop n next prev₀ t₀ prev t = n - t
 
 loop-holds : tie.Need-loop-init invariant-loop decreases-loop
-loop-holds c = turn-starts c.before.before.requires
+loop-holds c = turn_starts c.before.before.requires
 
 mul_wide : tie.Need-overflow-mul-wide invariant-loop decreases-loop
 mul_wide c = search rules
@@ -47,8 +47,8 @@ loop-again c =
     let w = d.before.loop.invariant in
     let e = c.before.wide.ensures in
     ⊎_elim
-    (λ k. rw k.1 (turn-lays single c.before.wide.result e d.loop-test.true k.0.taken w))
-    (λ k. rw k.1 (turn-passes single d.loop-test.true (omega (arith, e, k.0.left)) w))
+    (λ k. rw k.1 (turn_lays single c.before.wide.result e d.loop-test.true k.0.taken w))
+    (λ k. rw k.1 (turn_passes single d.loop-test.true (omega (arith, e, k.0.left)) w))
     c.if1.branch
 
 same_length : tie.Need-same-length invariant-loop decreases-loop
@@ -57,7 +57,7 @@ same_length c = search rules
 returns : tie.Need-returns invariant-loop decreases-loop
 returns c =
     let w = c.before.loop.invariant in
-    record { undoes = turn-ends w c.loop-test.false; kept = w.kept }
+    record { undoes = turn_ends w c.loop-test.false; kept = w.kept }
 
 pub turn_spec : {M : Type 1} → statement M
 turn_spec =

@@ -1,19 +1,19 @@
 -- Each branch is one of rows 9 to 12, with those before it not holding.
 use borrow.Author.Tests.{eq-eqb, ne_eqb, lt-ltb, le-ltb}
-use Rattle.plan.specs.PlanFile.{planTried}
+use Rattle.plan.specs.PlanFile.{plan_tried}
 use borrow.Author.Rules.{rules}
 use Rattle.plan.proofs.rows.tried.Statement.{statement}
 use Rattle.plan.proofs.rows.tried.Tie as tie
 
 returns : tie.Need-returns
-unfolding planTried
+unfolding plan_tried
 returns c = simp (lt-ltb _ _ c.if1.true)
 
 marked-requires : tie.Need-marked-requires
 marked-requires c κs = search rules
 
 returns-2 : tie.Need-returns-2
-unfolding planTried
+unfolding plan_tried
 returns-2 c =
     let e1 = c.before.before in
     simp (le-ltb _ _ e1.if1.false, ← c.before.marked.ensures, c.if2.true)
@@ -22,7 +22,7 @@ u16-at-requires : tie.Need-u16-at-requires
 u16-at-requires c κs = search rules
 
 returns-3 : tie.Need-returns-3
-unfolding planTried
+unfolding plan_tried
 returns-3 c =
     let e2 = c.before.before in
     let e1 = e2.before.before in
@@ -38,7 +38,7 @@ add-if4-2 : tie.Need-overflow-add-if4-2
 add-if4-2 c = search rules
 
 returns-4 : tie.Need-returns-4
-unfolding planTried
+unfolding plan_tried
 returns-4 c =
     let e3 = c.before in
     let e2 = e3.before.before in
@@ -46,7 +46,7 @@ returns-4 c =
     simp (le-ltb _ _ e1.if1.false, ← e2.before.marked.ensures, e2.if2.false, ← e3.before.u16-at.ensures.0, eq-eqb _ _ e3.if3.false, ne_eqb _ _ c.if4.true)
 
 returns-5 : tie.Need-returns-5
-unfolding planTried
+unfolding plan_tried
 returns-5 c =
     let e3 = c.before in
     let e2 = e3.before.before in

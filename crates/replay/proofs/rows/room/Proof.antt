@@ -4,7 +4,7 @@ use mathlib.Core.Path.{◌∙◌, ap}
 use borrow.Author.Rules.{rules}
 use Prim.Native.Nat.{◌-◌}
 use lib.ListN.{length}
-use Rattle.replay.proofs.Steps.{RoomLeft, room-start, room-less, room-hit, room-on, room-end}
+use Rattle.replay.proofs.Steps.{RoomLeft, room_start, room_less, room_hit, room_on, room_end}
 use Rattle.replay.proofs.rows.room.Statement.{statement}
 use Rattle.replay.proofs.rows.room.Tie as tie
 
@@ -18,7 +18,7 @@ slots-requires : tie.Need-slots-requires invariant-loop decreases-loop
 slots-requires c κs = search rules
 
 loop-holds : tie.Need-loop-init invariant-loop decreases-loop
-loop-holds c = room-start _ _
+loop-holds c = room_start _ _
 
 flag-requires : tie.Need-flag-requires invariant-loop decreases-loop
 flag-requires c κs = search rules
@@ -36,7 +36,7 @@ bit-requires-2 : tie.Need-bit-requires-2 invariant-loop decreases-loop
 bit-requires-2 c κs = search rules
 
 sub_within : tie.Need-overflow-sub-within invariant-loop decreases-loop
-sub_within c = room-less c.before.before.before.before.before.before.before.before.before.requires c.before.before.before.before.before.loop.invariant c.before.before.before.before.loop-test.true _ _ (c.before.before.bit.ensures.0 ∙ ap (λ (z : Bool). cond z 1 0) c.before.before.before.flag.ensures) (c.bit2.ensures.0 ∙ ap (λ (z : Bool). cond z 1 0) c.before.held.ensures)
+sub_within c = room_less c.before.before.before.before.before.before.before.before.before.requires c.before.before.before.before.before.loop.invariant c.before.before.before.before.loop-test.true _ _ (c.before.before.bit.ensures.0 ∙ ap (λ (z : Bool). cond z 1 0) c.before.before.before.flag.ensures) (c.bit2.ensures.0 ∙ ap (λ (z : Bool). cond z 1 0) c.before.held.ensures)
 
 add-refused : tie.Need-overflow-add-refused invariant-loop decreases-loop
 add-refused c = search rules
@@ -45,7 +45,7 @@ refused-requires : tie.Need-refused-requires invariant-loop decreases-loop
 refused-requires c κs = search rules
 
 returns : tie.Need-returns invariant-loop decreases-loop
-returns c = c.refused.ensures ∙ room-hit c.before.before.before.before.before.before.before.before.before.before.before.requires c.before.before.before.before.before.before.before.loop.invariant c.before.before.before.before.before.before.loop-test.true _ _ (c.before.before.before.before.bit.ensures.0 ∙ ap (λ (z : Bool). cond z 1 0) c.before.before.before.before.before.flag.ensures) (c.before.before.bit2.ensures.0 ∙ ap (λ (z : Bool). cond z 1 0) c.before.before.before.held.ensures) (rw (← c.before.before.before.before.before.before.before.before.slots.ensures.0) c.before.if1.true)
+returns c = c.refused.ensures ∙ room_hit c.before.before.before.before.before.before.before.before.before.before.before.requires c.before.before.before.before.before.before.before.loop.invariant c.before.before.before.before.before.before.loop-test.true _ _ (c.before.before.before.before.bit.ensures.0 ∙ ap (λ (z : Bool). cond z 1 0) c.before.before.before.before.before.flag.ensures) (c.before.before.bit2.ensures.0 ∙ ap (λ (z : Bool). cond z 1 0) c.before.before.before.held.ensures) (rw (← c.before.before.before.before.before.before.before.before.slots.ensures.0) c.before.if1.true)
 
 add-t : tie.Need-overflow-add-t invariant-loop decreases-loop
 add-t c = search rules
@@ -54,10 +54,10 @@ loop-less : tie.Need-loop-smaller invariant-loop decreases-loop
 loop-less c = search rules
 
 loop-again : tie.Need-loop-preserved invariant-loop decreases-loop
-loop-again c = room-on c.before.before.before.before.before.before.before.before.before.before.requires c.before.before.before.before.before.before.loop.invariant c.before.before.before.before.before.loop-test.true _ _ (c.before.before.before.bit.ensures.0 ∙ ap (λ (z : Bool). cond z 1 0) c.before.before.before.before.flag.ensures) (c.before.bit2.ensures.0 ∙ ap (λ (z : Bool). cond z 1 0) c.before.before.held.ensures) (rw (← c.before.before.before.before.before.before.before.slots.ensures.0) c.if1.false)
+loop-again c = room_on c.before.before.before.before.before.before.before.before.before.before.requires c.before.before.before.before.before.before.loop.invariant c.before.before.before.before.before.loop-test.true _ _ (c.before.before.before.bit.ensures.0 ∙ ap (λ (z : Bool). cond z 1 0) c.before.before.before.before.flag.ensures) (c.before.bit2.ensures.0 ∙ ap (λ (z : Bool). cond z 1 0) c.before.before.held.ensures) (rw (← c.before.before.before.before.before.before.before.slots.ensures.0) c.if1.false)
 
 returns-2 : tie.Need-returns-2 invariant-loop decreases-loop
-returns-2 c = room-end c.before.before.before.before.before.requires c.before.loop.invariant c.loop-test.false
+returns-2 c = room_end c.before.before.before.before.before.requires c.before.loop.invariant c.loop-test.false
 
 pub room-spec : {M : Type 1} → statement M
 room-spec =

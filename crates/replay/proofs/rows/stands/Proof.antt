@@ -4,7 +4,7 @@ use borrow.Author.Rules.{rules}
 use native.Mathlib.Omega.{arith}
 use Prim.Native.Nat.{◌-◌}
 use lib.ListN.{length}
-use Rattle.replay.proofs.Steps.{StandsLeft, stands-hit, stands_on, stands-end}
+use Rattle.replay.proofs.Steps.{StandsLeft, stands_hit, stands_on, stands_end}
 use Rattle.replay.proofs.rows.stands.Statement.{statement}
 use Rattle.replay.proofs.rows.stands.Tie as tie
 
@@ -27,7 +27,7 @@ refused-requires : tie.Need-refused-requires invariant-loop decreases-loop
 refused-requires c κs = search rules
 
 returns : tie.Need-returns invariant-loop decreases-loop
-returns c = c.refused.ensures ∙ stands-hit c.before.before.before.before.before.before.before.requires c.before.before.before.before.loop.invariant c.before.before.before.loop-test.true (sym c.before.before.stray.ensures ∙ c.before.if1.true)
+returns c = c.refused.ensures ∙ stands_hit c.before.before.before.before.before.before.before.requires c.before.before.before.before.loop.invariant c.before.before.before.loop-test.true (sym c.before.before.stray.ensures ∙ c.before.if1.true)
 
 add-t : tie.Need-overflow-add-t invariant-loop decreases-loop
 add-t c = search rules
@@ -39,7 +39,7 @@ loop-again : tie.Need-loop-preserved invariant-loop decreases-loop
 loop-again c = stands_on c.before.before.before.before.before.before.requires c.before.before.before.loop.invariant c.before.before.loop-test.true (sym c.before.stray.ensures ∙ c.if1.false)
 
 returns-2 : tie.Need-returns-2 invariant-loop decreases-loop
-returns-2 c = stands-end c.before.before.before.before.requires c.before.loop.invariant c.loop-test.false
+returns-2 c = stands_end c.before.before.before.before.requires c.before.loop.invariant c.loop-test.false
 
 pub stands-spec : {M : Type 1} → statement M
 stands-spec =

@@ -1,5 +1,5 @@
 -- `tried` meets its contract. Assumes nothing.
-use Rattle.replay.specs.Replay.{flagsTried}
+use Rattle.replay.specs.Replay.{flags_tried}
 use borrow.Author.Rules.{rules}
 use Rattle.replay.proofs.rows.tried.Statement.{statement}
 use Rattle.replay.proofs.rows.tried.Tie as tie
@@ -11,7 +11,7 @@ enum-known-r : tie.Need-enum-known-r
 enum-known-r c = search rules
 
 returns : tie.Need-returns
-unfolding flagsTried
+unfolding flags_tried
 returns c = let e = rw c.before.r.given.1 at c.before.before.before.values.ensures in rw (← e)
 
 enum_told : tie.Need-enum-told
@@ -24,7 +24,7 @@ enum-known-r-2 : tie.Need-enum-known-r-2
 enum-known-r-2 c = search rules
 
 returns-2 : tie.Need-returns-2
-unfolding flagsTried
+unfolding flags_tried
 returns-2 c =
     let e = rw c.before.before.before.before.enum_told.given.1 at c.before.before.before.before.before.before.values.ensures in
     let f = rw c.before.r2.given.1 at c.before.before.before.stands.ensures in
@@ -37,7 +37,7 @@ room-requires : tie.Need-room-requires
 room-requires c κs = search rules
 
 returns-3 : tie.Need-returns-3
-unfolding flagsTried
+unfolding flags_tried
 returns-3 c =
     let e = rw c.before.before.before.before.enum_told.given.1 at c.before.before.before.before.before.before.values.ensures in
     let f = rw c.before.enum-told2.given.1 at c.before.before.before.stands.ensures in

@@ -4,7 +4,7 @@ use borrow.Author.Rules.{rules}
 use native.Mathlib.Omega.{arith}
 use Prim.Native.Nat.{◌-◌}
 use lib.ListN.{length}
-use Rattle.replay.proofs.Steps.{ValuesLeft, values-hit, values-on, values-end}
+use Rattle.replay.proofs.Steps.{ValuesLeft, values_hit, values_on, values_end}
 use Rattle.replay.proofs.rows.values.Statement.{statement}
 use Rattle.replay.proofs.rows.values.Tie as tie
 
@@ -27,7 +27,7 @@ refused-requires : tie.Need-refused-requires invariant-loop decreases-loop
 refused-requires c κs = search rules
 
 returns : tie.Need-returns invariant-loop decreases-loop
-returns c = c.refused.ensures ∙ values-hit c.before.before.before.before.loop.invariant (search rules) (search rules)
+returns c = c.refused.ensures ∙ values_hit c.before.before.before.before.loop.invariant (search rules) (search rules)
 
 add-t : tie.Need-overflow-add-t invariant-loop decreases-loop
 add-t c = search rules
@@ -36,10 +36,10 @@ loop-less : tie.Need-loop-smaller invariant-loop decreases-loop
 loop-less c = search rules
 
 loop-again : tie.Need-loop-preserved invariant-loop decreases-loop
-loop-again c = values-on c.before.before.before.loop.invariant (search rules) (search rules)
+loop-again c = values_on c.before.before.before.loop.invariant (search rules) (search rules)
 
 returns-2 : tie.Need-returns-2 invariant-loop decreases-loop
-returns-2 c = values-end c.before.loop.invariant (search rules)
+returns-2 c = values_end c.before.loop.invariant (search rules)
 
 pub values-spec : {M : Type 1} → statement M
 values-spec =

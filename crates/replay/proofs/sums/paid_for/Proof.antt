@@ -1,7 +1,7 @@
 -- `paid_for` meets its contract: the row of the request charges and counts what the model does. Assumes nothing.
 use mathlib.Core.Path.{◌∙◌, ap}
-use Rattle.replay.specs.Rows.{paidIn}
-use Rattle.replay.proofs.Table.{row-paid}
+use Rattle.replay.specs.Rows.{paid_in}
+use Rattle.replay.proofs.Table.{row_paid}
 use borrow.Author.Rules.{rules}
 use Rattle.replay.proofs.sums.paid_for.Statement.{statement}
 use Rattle.replay.proofs.sums.paid_for.Tie as tie
@@ -22,8 +22,8 @@ returns : tie.Need-returns
 returns c =
     let a = c.before.before.args in
     λ w i. c.paid-of.ensures
-    ∙ ap (λ row. paidIn row a.cost a.fill) c.before.row_of.ensures
-    ∙ row-paid (record { slots = w; fill = a.fill }) (record { write = a.write; item = i; cost = a.cost }) a.before a.after
+    ∙ ap (λ row. paid_in row a.cost a.fill) c.before.row_of.ensures
+    ∙ row_paid (record { slots = w; fill = a.fill }) (record { write = a.write; item = i; cost = a.cost }) a.before a.after
 
 pub paid-for-spec : {M : Type 1} → statement M
 paid-for-spec =

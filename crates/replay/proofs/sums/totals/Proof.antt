@@ -4,13 +4,13 @@ use borrow.Author.Rules.{rules}
 use native.Mathlib.Omega.{arith}
 use Prim.Native.Nat.{◌-◌}
 use lib.ListN.{length}
-use Rattle.replay.specs.Answers.{totalsIn}
-use Rattle.replay.proofs.Counting.{TotalsLeft, paidAt, paid-is, totals-start, totals-next, totals-add, totals-end}
+use Rattle.replay.specs.Answers.{totals_in}
+use Rattle.replay.proofs.Counting.{TotalsLeft, paid_at, paid_is, totals_start, totals_next, totals_add, totals_end}
 use Rattle.replay.proofs.sums.totals.Statement.{statement}
 use Rattle.replay.proofs.sums.totals.Tie as tie
 
 abbrev invariant-loop : tie.invariant-loop
-invariant-loop trace flags prev fill sum₀ t₀ sum t = TotalsLeft trace flags (totalsIn sum) t
+invariant-loop trace flags prev fill sum₀ t₀ sum t = TotalsLeft trace flags (totals_in sum) t
 
 abbrev decreases-loop : tie.decreases-loop
 decreases-loop trace flags prev fill sum₀ t₀ sum t = length flags - t
@@ -19,7 +19,7 @@ fill-requires : tie.Need-fill-requires invariant-loop decreases-loop
 fill-requires c κs = search rules
 
 loop-holds : tie.Need-loop-init invariant-loop decreases-loop
-loop-holds c = totals-start c.before.before.before.requires
+loop-holds c = totals_start c.before.before.before.requires
 
 kind-requires : tie.Need-kind-requires invariant-loop decreases-loop
 kind-requires c κs = search rules
@@ -39,13 +39,13 @@ paid-for-requires c κs =
     (omega (arith, c.before.before.before.before.before.before.fill.ensures.0, pre.sound.fill), omega (arith, c.before.before.cost.ensures.0, pre.sound.costs c.before.before.before.before.before.loop.t (omega (arith, pre.count))))
 
 -- what the turn's request pays and counts for
-here : (c : tie.After-paid-for invariant-loop decreases-loop) → totalsIn c.paid_for.result ≡ paidAt c.before.before.before.before.before.before.before.before.before.before.requires c.before.before.before.before.before.before.loop.t
+here : (c : tie.After-paid-for invariant-loop decreases-loop) → totals_in c.paid_for.result ≡ paid_at c.before.before.before.before.before.before.before.before.before.before.requires c.before.before.before.before.before.before.loop.t
 here c =
     c.paid_for.ensures 0 0
-    ∙ paid-is c.before.before.before.before.before.before.before.before.before.before.requires c.before.before.before.before.before.before.loop.t _ _ _ _ _ c.before.before.before.before.before.before.before.fill.ensures.0 c.before.before.before.before.kind.ensures.0 c.before.before.before.cost.ensures.0 c.before.before.held.ensures c.before.flag.ensures
+    ∙ paid_is c.before.before.before.before.before.before.before.before.before.before.requires c.before.before.before.before.before.before.loop.t _ _ _ _ _ c.before.before.before.before.before.before.before.fill.ensures.0 c.before.before.before.before.kind.ensures.0 c.before.before.before.cost.ensures.0 c.before.before.held.ensures c.before.flag.ensures
 
 add-requires : tie.Need-add-requires invariant-loop decreases-loop
-add-requires c κs = rw (here c) (totals-add c.before.before.before.before.before.before.before.before.before.before.requires c.before.before.before.before.before.before.loop.invariant c.before.before.before.before.before.loop-test.true)
+add-requires c κs = rw (here c) (totals_add c.before.before.before.before.before.before.before.before.before.before.requires c.before.before.before.before.before.before.loop.invariant c.before.before.before.before.before.loop-test.true)
 
 add-t : tie.Need-overflow-add-t invariant-loop decreases-loop
 add-t c = search rules
@@ -54,10 +54,10 @@ loop-less : tie.Need-loop-smaller invariant-loop decreases-loop
 loop-less c = search rules
 
 loop-again : tie.Need-loop-preserved invariant-loop decreases-loop
-loop-again c = totals-next c.before.before.before.before.before.before.before.before.before.before.before.requires c.before.before.before.before.before.before.before.loop.invariant c.before.before.before.before.before.before.loop-test.true (here c.before) c.add.ensures
+loop-again c = totals_next c.before.before.before.before.before.before.before.before.before.before.before.requires c.before.before.before.before.before.before.before.loop.invariant c.before.before.before.before.before.before.loop-test.true (here c.before) c.add.ensures
 
 returns : tie.Need-returns invariant-loop decreases-loop
-returns c = totals-end c.before.before.before.before.before.requires c.before.loop.invariant c.loop-test.false
+returns c = totals_end c.before.before.before.before.before.requires c.before.loop.invariant c.loop-test.false
 
 pub totals-spec : {M : Type 1} → statement M
 totals-spec =

@@ -1,7 +1,7 @@
 -- The flag of the previous request, where there is one.
 use borrow.Author.Rules.{rules}
 use mathlib.Core.Path.{◌∙◌}
-use Rattle.replay.proofs.Linked.{held-here, held-never}
+use Rattle.replay.proofs.Linked.{held_here, held_never}
 use Rattle.schedule.proofs.numbers.held.Statement.{statement}
 use Rattle.schedule.proofs.numbers.held.Tie as tie
 
@@ -21,13 +21,13 @@ returns : tie.Need-returns
 returns c =
     let p = c.before.before in
     let a = p.before.before.before.args in
-    c.flag.ensures ∙ held-here a.flags.now a.prev.now a.t _ p.wide.ensures c.before.if1.true
+    c.flag.ensures ∙ held_here a.flags.now a.prev.now a.t _ p.wide.ensures c.before.if1.true
 
 returns-2 : tie.Need-returns-2
 returns-2 c =
     let p = c.before in
     let a = p.before.before.before.args in
-    held-never a.flags.now a.prev.now a.t _ p.wide.ensures c.if1.false
+    held_never a.flags.now a.prev.now a.t _ p.wide.ensures c.if1.false
 
 pub held_spec : {M : Type 1} → statement M
 held_spec = tie.close (tie.spec mul_wide element-copy-out-wide wide-requires flag-requires returns returns-2)

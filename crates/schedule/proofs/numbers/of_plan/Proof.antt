@@ -1,7 +1,7 @@
 -- The flags and rents are the plan's, and the lists are the trace's.
 use borrow.Author.Rules.{rules}
 use mathlib.Core.Path.{◌∙◌}
-use Rattle.schedule.proofs.Steps.{plan-linked, plan-rent, step-of-plan}
+use Rattle.schedule.proofs.Steps.{plan_linked, plan_rent, step_of_plan}
 use Rattle.schedule.proofs.numbers.of_plan.Statement.{statement}
 use Rattle.schedule.proofs.numbers.of_plan.Tie as tie
 
@@ -21,7 +21,7 @@ of-flags-requires : tie.Need-of-flags-requires
 of-flags-requires c κs =
     let f = c.before.before.before.before in
     let s = f.before.before.before.before.before in
-    plan-linked s.args.trace.now s.args.plan.now s.args.t s.requires f.fill.ensures c.before.flags.ensures
+    plan_linked s.args.trace.now s.args.plan.now s.args.t s.requires f.fill.ensures c.before.flags.ensures
 
 returns : tie.Need-returns
 returns c =
@@ -29,8 +29,8 @@ returns c =
     let r = g.before in
     let f = r.before.before in
     let s = f.before.before.before.before.before in
-    let rent = plan-rent s.args.trace.now s.args.plan.now s.args.t s.requires r.before.rents.ensures r.rent.ensures.0 in
-    c.of-flags.ensures ∙ step-of-plan s.args.trace.now s.args.plan.now s.args.t s.requires g.flags.ensures rent
+    let rent = plan_rent s.args.trace.now s.args.plan.now s.args.t s.requires r.before.rents.ensures r.rent.ensures.0 in
+    c.of-flags.ensures ∙ step_of_plan s.args.trace.now s.args.plan.now s.args.t s.requires g.flags.ensures rent
 
 pub of-plan-spec : {M : Type 1} → statement M
 of-plan-spec = tie.close (tie.spec fill-requires rents-requires rent-requires flags-requires of-flags-requires returns)

@@ -2,8 +2,8 @@
 use borrow.Author.Rules.{rules}
 use native.Mathlib.Omega.{arith}
 use Prim.Native.Nat.{◌+◌, ◌-◌, ◌<◌}
-use Rattle.model.specs.Numbers.{maxRequests}
-use Rattle.schedule.proofs.Counting.{Counting, counting-begins, counting-less, counting-on, counting-ends}
+use Rattle.model.specs.Numbers.{max_requests}
+use Rattle.schedule.proofs.Counting.{Counting, counting_begins, counting_less, counting_on, counting_ends}
 use Rattle.schedule.proofs.numbers.within.Statement.{statement}
 use Rattle.schedule.proofs.numbers.within.Tie as tie
 
@@ -14,10 +14,10 @@ abbrev decreases-loop : tie.decreases-loop
 decreases-loop trace flags prev t count₀ s₀ count s = t + 1 - s
 
 loop-holds : tie.Need-loop-init invariant-loop decreases-loop
-loop-holds c = counting-begins _ _ _
+loop-holds c = counting_begins _ _ _
 
 -- in the loop a request of the trace is looked at
-inside : (c : tie.In-loop invariant-loop decreases-loop) → c.before.loop.s < maxRequests
+inside : (c : tie.In-loop invariant-loop decreases-loop) → c.before.loop.s < max_requests
 inside c =
     let p = c.before.before.before.before.requires in
     omega (arith, p.inside, p.back.sound.requests)
@@ -42,7 +42,7 @@ bit-requires-2 c κs = search rules
 sub-count : tie.Need-overflow-sub-count invariant-loop decreases-loop
 sub-count c =
     let i = c.before.before.before.before in
-    counting-less i.before.before.before.before.requires i.before.loop.invariant (omega arith)
+    counting_less i.before.before.before.before.requires i.before.loop.invariant (omega arith)
     c.before.before.bit.ensures.0 c.before.before.before.flag.ensures c.bit2.ensures.0 c.before.held.ensures
 
 add-s : tie.Need-overflow-add-s invariant-loop decreases-loop
@@ -54,12 +54,12 @@ loop-less c = omega arith
 loop-again : tie.Need-loop-preserved invariant-loop decreases-loop
 loop-again c =
     let i = c.before.before.before.before in
-    counting-on i.before.before.before.before.requires i.before.loop.invariant (omega arith)
+    counting_on i.before.before.before.before.requires i.before.loop.invariant (omega arith)
     c.before.before.bit.ensures.0 c.before.before.before.flag.ensures c.bit2.ensures.0 c.before.held.ensures
     c.before.before.bit.ensures.1
 
 returns : tie.Need-returns invariant-loop decreases-loop
-returns c = counting-ends c.before.loop.invariant c.loop-test.false
+returns c = counting_ends c.before.loop.invariant c.loop-test.false
 
 pub within-spec : {M : Type 1} → statement M
 within-spec =

@@ -5,15 +5,15 @@ use mathlib.Core.Path.{◌≡◌}
 use mathlib.Core.Logic.{⊎_elim}
 use native.Mathlib.Omega.{arith}
 use lib.ListN.{length, replicate, length-replicate}
-use Rattle.steps.specs.Search.{waysBy, Runs}
-use Rattle.steps.proofs.SearchTurn.{even-of, runs-begin, Ready, ready-stay, ready-taken}
-use Rattle.steps.proofs.SearchFound.{runs-found}
+use Rattle.steps.specs.Search.{ways_by, Runs}
+use Rattle.steps.proofs.SearchTurn.{even_of, runs_begin, Ready, ready_stay, ready-taken}
+use Rattle.steps.proofs.SearchFound.{runs_found}
 use Rattle.solver.proofs.search.shortest.Statement.{statement}
 use Rattle.solver.proofs.search.shortest.Tie as tie
 
 abbrev invariant-loop : tie.invariant-loop
 invariant-loop from len n hop₀ s₀ stack₀ list₀ ends₀ current₀ left₀ hop s stack list ends current left =
-    Runs (suc (2 * n)) n (waysBy from len) s.dist hop stack list ends.top ends.waiting current left
+    Runs (suc (2 * n)) n (ways_by from len) s.dist hop stack list ends.top ends.waiting current left
 
 abbrev decreases-loop : tie.decreases-loop
 decreases-loop from len n hop₀ s₀ stack₀ list₀ ends₀ current₀ left₀ hop s stack list ends current left = left
@@ -23,7 +23,7 @@ ready : (c : tie.Joined2 invariant-loop decreases-loop) →
     let at-loop = c.before.before.before.before in
     let a = at-loop.before.before.args in
     let j = c.if2 in
-    Ready (suc (2 * a.n)) a.n (waysBy a.from.now a.len.now) at-loop.loop.s.dist at-loop.loop.hop j.stack j.list
+    Ready (suc (2 * a.n)) a.n (ways_by a.from.now a.len.now) at-loop.loop.s.dist at-loop.loop.hop j.stack j.list
     j.ends.top j.ends.waiting j.current at-loop.loop.left
 ready c =
     let at-loop = c.before.before.before.before in
@@ -33,7 +33,7 @@ ready c =
     let f = w.5.ensures in
     rw (w.6, w.7, w.8, w.9)
     (ready-taken R c.before.before.if1.true (omega arith) at-loop.before.before.requires.0.chain w.0.taken f.0 f.1.0 f.1.1.0 f.1.1.1.0 f.1.1.1.1))
-    (λ w. rw (w.1, w.2, w.3, w.4) (ready-stay R w.0.left)) c.if2.branch
+    (λ w. rw (w.1, w.2, w.3, w.4) (ready_stay R w.0.left)) c.if2.branch
 
 fresh-requires : tie.Need-fresh-requires invariant-loop decreases-loop
 fresh-requires c κs = tt
@@ -54,7 +54,7 @@ loop-holds : tie.Need-loop-init invariant-loop decreases-loop
 loop-holds c =
     let start = c.before in
     let ones = length-replicate {A = ℕ} 2050 1 in
-    runs-begin _ _ _ _ _ (replicate 2050 1) _ (omega (arith, start.requires.0.few)) (omega arith) (even-of _ _ c.fresh.ensures) start.requires.1 ones ones
+    runs_begin _ _ _ _ _ (replicate 2050 1) _ (omega (arith, start.requires.0.few)) (omega arith) (even_of _ _ c.fresh.ensures) start.requires.1 ones ones
 
 element-copy-out-if1 : tie.Need-element-copy-out-if1 invariant-loop decreases-loop
 element-copy-out-if1 c = omega arith
@@ -81,7 +81,7 @@ loop-again : tie.Need-loop-preserved invariant-loop decreases-loop
 loop-again c = c.spread.ensures
 
 returns : tie.Need-returns invariant-loop decreases-loop
-returns c = runs-found c.before.before.loop.invariant (omega arith) (λ l. omega (arith, c.if1.false))
+returns c = runs_found c.before.before.loop.invariant (omega arith) (λ l. omega (arith, c.if1.false))
 
 pub shortest-spec : {M : Type 1} → statement M
 shortest-spec =

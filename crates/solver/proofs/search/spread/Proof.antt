@@ -4,17 +4,17 @@ use mathlib.Core.Path.{◌≡◌}
 use native.Mathlib.Omega.{arith}
 use borrow.Author.Rules.{rules}
 use lib.ListN.{get_or}
-use Rattle.steps.specs.Search.{waysBy}
+use Rattle.steps.specs.Search.{ways_by}
 use Rattle.steps.proofs.SearchOffer.{Spreads}
-use Rattle.steps.proofs.SearchTurn.{spreads-pop, spreads-on}
-use Rattle.steps.proofs.SearchWays.{spreads-next}
+use Rattle.steps.proofs.SearchTurn.{spreads_pop, spreads_on}
+use Rattle.steps.proofs.SearchWays.{spreads_next}
 use Rattle.solver.proofs.search.spread.Statement.{statement}
 use Rattle.solver.proofs.search.spread.Tie as tie
 
 abbrev invariant-loop : tie.invariant-loop
 invariant-loop from len n dist₀ hop₀ stack₀ list₀ current left top u held₀ kind₀ dist hop stack list held kind =
     (kind ≤ 3)
-    × Spreads (suc (2 * n)) n (waysBy from len) dist hop stack list held.top held.waiting current (left - 1) u kind
+    × Spreads (suc (2 * n)) n (ways_by from len) dist hop stack list held.top held.waiting current (left - 1) u kind
 
 abbrev decreases-loop : tie.decreases-loop
 decreases-loop from len n dist₀ hop₀ stack₀ list₀ current left top u held₀ kind₀ dist hop stack list held kind = 3 - kind
@@ -33,7 +33,7 @@ element-copy-out-u : tie.Need-element-copy-out-u invariant-loop decreases-loop
 element-copy-out-u c = omega (arith, room c.before)
 
 loop-holds : tie.Need-loop-init invariant-loop decreases-loop
-loop-holds c = let start = c.before.before in (omega arith, spreads-pop start.requires.1 start.requires.2)
+loop-holds c = let start = c.before.before in (omega arith, spreads_pop start.requires.1 start.requires.2)
 
 -- the node from the stack
 abbrev taken : (c : tie.Start invariant-loop decreases-loop) → ℕ
@@ -86,13 +86,13 @@ loop-again c =
     let at-loop = in-loop.before in
     let small = in-loop.loop-test.true in (
       omega (arith, small),
-      spreads-next at-loop.before.before.before.requires.0 at-loop.loop.invariant.1 small after-wide.wide.ensures.0 c.offer.ensures,
+      spreads_next at-loop.before.before.before.requires.0 at-loop.loop.invariant.1 small after-wide.wide.ensures.0 c.offer.ensures,
     )
 
 returns : tie.Need-returns invariant-loop decreases-loop
 returns c =
     let e : c.before.loop.kind ≡ 3 = omega (arith, c.before.loop.invariant.0, c.loop-test.false) in
-    spreads-on (rw e at c.before.loop.invariant.1)
+    spreads_on (rw e at c.before.loop.invariant.1)
 
 pub spread-spec : {M : Type 1} → statement M
 spread-spec =

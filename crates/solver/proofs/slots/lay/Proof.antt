@@ -5,7 +5,7 @@ use Prim.Native.Nat.{◌-◌, ◌≤◌}
 use native.Mathlib.Omega.{arith}
 use native.Mathlib.Numerals.{add-one}
 use Rattle.steps.specs.Slots.{Laid, Cheap}
-use Rattle.steps.proofs.Laying.{laid-few, laid_more, laid-cheap}
+use Rattle.steps.proofs.Laying.{laid_few, laid_more, laid_cheap}
 use Rattle.solver.proofs.slots.lay.Statement.{statement}
 use Rattle.solver.proofs.slots.lay.Tie as tie
 
@@ -23,10 +23,10 @@ element-copy-out-if1 : tie.Need-element-copy-out-if1 invariant-loop decreases-lo
 element-copy-out-if1 c = search rules
 
 mul-if1 : tie.Need-overflow-mul-if1 invariant-loop decreases-loop
-mul-if1 c = omega (arith, laid-few c.before.before.loop.invariant.2)
+mul-if1 c = omega (arith, laid_few c.before.before.loop.invariant.2)
 
 element-copy-out-if1-2 : tie.Need-element-copy-out-if1-2 invariant-loop decreases-loop
-element-copy-out-if1-2 c = omega (arith, laid-few c.before.before.loop.invariant.2)
+element-copy-out-if1-2 c = omega (arith, laid_few c.before.before.loop.invariant.2)
 
 returns : tie.Need-returns invariant-loop decreases-loop
 returns c = let i = c.before.before.before.before.loop.invariant in (laid_more i.2 _ i.0 i.1 c.if1.true, i.3)
@@ -44,7 +44,7 @@ loop-again : tie.Need-loop-preserved invariant-loop decreases-loop
 loop-again c =
     let m = c.more.ensures in
     let i = c.before.before.before.before.before.before.before.before.loop.invariant in
-    (omega (arith, c.before.before.before.before.before.before.before.loop-test.true), i.1, rw add-one m, laid-cheap m (omega arith))
+    (omega (arith, c.before.before.before.before.before.before.before.loop-test.true), i.1, rw add-one m, laid_cheap m (omega arith))
 
 returns-2 : tie.Need-returns-2 invariant-loop decreases-loop
 returns-2 c =

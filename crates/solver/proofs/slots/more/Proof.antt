@@ -2,8 +2,8 @@
 use borrow.Author.Rules.{rules}
 use mathlib.Core.Path.{refl}
 use native.Mathlib.Omega.{arith}
-use Rattle.steps.proofs.Laying.{laid-few}
-use Rattle.steps.proofs.Turn.{turn-graph, turn-trail, turn-laid}
+use Rattle.steps.proofs.Laying.{laid_few}
+use Rattle.steps.proofs.Turn.{turn_graph, turn-trail, turn-laid}
 use Rattle.solver.proofs.slots.more.Statement.{statement}
 use Rattle.solver.proofs.slots.more.Tie as tie
 
@@ -21,7 +21,7 @@ lengths-requires : tie.Need-lengths-requires
 lengths-requires c κs = search rules
 
 shortest-requires : tie.Need-shortest-requires
-shortest-requires c κs = let m = c.before.before in (turn-graph (entry m).requires.0 m.lengths.ensures, refl)
+shortest-requires c κs = let m = c.before.before in (turn_graph (entry m).requires.0 m.lengths.ensures, refl)
 
 element-copy-out-d : tie.Need-element-copy-out-d
 element-copy-out-d c = search rules
@@ -30,10 +30,10 @@ cast-d : tie.Need-overflow-cast-d
 cast-d c = search rules
 
 mul-raise : tie.Need-overflow-mul-raise
-mul-raise c = omega (arith, laid-few c.before.before.before.before.before.before.before.before.before.before.before.requires.0)
+mul-raise c = omega (arith, laid_few c.before.before.before.before.before.before.before.before.before.before.before.requires.0)
 
 add-raise : tie.Need-overflow-add-raise
-add-raise c = omega (arith, laid-few c.before.before.before.before.before.before.before.before.before.before.before.requires.0)
+add-raise c = omega (arith, laid_few c.before.before.before.before.before.before.before.before.before.before.before.requires.0)
 
 raise-requires : tie.Need-raise-requires
 raise-requires c κs = search rules

@@ -1,6 +1,6 @@
 use borrow.Author.Rules.{rules}
 use borrow.Author.Tests.{eq-eqb, ne_eqb, lt-ltb, le-ltb}
-use Rattle.trace.specs.TraceFile.{traceTried}
+use Rattle.trace.specs.TraceFile.{trace_tried}
 use Rattle.trace.proofs.rows.head.Statement.{statement}
 use Rattle.trace.proofs.rows.head.Tie as tie
 
@@ -17,7 +17,7 @@ refused-requires : tie.Need-refused-requires
 refused-requires c κs = search rules
 
 returns : tie.Need-returns
-unfolding traceTried
+unfolding trace_tried
 returns c = simp (c.refused.ensures, lt-ltb _ _ c.before.if1.true)
 
 marked-requires : tie.Need-marked-requires
@@ -27,7 +27,7 @@ refused-requires-2 : tie.Need-refused-requires-2
 refused-requires-2 c κs = search rules
 
 returns-2 : tie.Need-returns-2
-unfolding traceTried
+unfolding trace_tried
 returns-2 c =
     let e1 = c.before.before.before in
     simp (c.refused2.ensures, le-ltb _ _ e1.if1.false, ← c.before.before.marked.ensures, c.before.if2.true)
@@ -36,7 +36,7 @@ refused-requires-3 : tie.Need-refused-requires-3
 refused-requires-3 c κs = search rules
 
 returns-3 : tie.Need-returns-3
-unfolding traceTried
+unfolding trace_tried
 returns-3 c =
     let e2 = c.before.before in
     let e1 = e2.before.before in
@@ -49,7 +49,7 @@ refused-requires-4 : tie.Need-refused-requires-4
 refused-requires-4 c κs = search rules
 
 returns-4 : tie.Need-returns-4
-unfolding traceTried
+unfolding trace_tried
 returns-4 c =
     let e3 = c.before.before in
     let e2 = e3.before in
@@ -63,7 +63,7 @@ refused-requires-5 : tie.Need-refused-requires-5
 refused-requires-5 c κs = search rules
 
 returns-5 : tie.Need-returns-5
-unfolding traceTried
+unfolding trace_tried
 returns-5 c =
     let e4 = c.before.before in
     let e3 = e4.before in
@@ -84,7 +84,7 @@ refused-requires-6 : tie.Need-refused-requires-6
 refused-requires-6 c κs = search rules
 
 returns-6 : tie.Need-returns-6
-unfolding traceTried
+unfolding trace_tried
 returns-6 c =
     let e5 = c.before.before in
     let e4 = e5.before in
@@ -97,7 +97,7 @@ returns-6 c =
     simp (c.refused6.ensures, le-ltb _ _ e1.if1.false, ← e2.before.marked.ensures, e2.if2.false, ← v.slots.ensures.0, le-ltb _ _ e3.if3.false, ← q.requests.ensures.0, le-ltb _ _ e4.if4.false, ← p.fill.ensures.0, le-ltb _ _ e5.if5.false, ne_eqb _ _ c.before.if6.true)
 
 returns-7 : tie.Need-returns-7
-unfolding traceTried
+unfolding trace_tried
 returns-7 c =
     let e5 = c.before in
     let e4 = e5.before in

@@ -2,15 +2,15 @@ use borrow.Author.Rules.{rules}
 use mathlib.Core.Path.{◌≡◌, ◌∙◌}
 use Prim.Native.Nat.{◌+◌, ◌≤◌, ◌<◌, ◌-◌}
 use native.Mathlib.Omega.{arith}
-use Rattle.trace.specs.TraceFile.{requestsAt, recordsTried}
-use Rattle.trace.proofs.Records.{record-then}
+use Rattle.trace.specs.TraceFile.{requests_at, records_tried}
+use Rattle.trace.proofs.Records.{record_then}
 use Rattle.model.specs.Refusals.{said, next}
 use Rattle.trace.proofs.rows.records.Statement.{statement}
 use Rattle.trace.proofs.rows.records.Tie as tie
 
 abbrev invariant-loop : tie.invariant-loop
 invariant-loop trace n t₀ t =
-    (n ≡ requestsAt trace) × (n < 65536) × (t ≤ n) × (recordsTried (n - t) t trace ≡ recordsTried n 0 trace)
+    (n ≡ requests_at trace) × (n < 65536) × (t ≤ n) × (records_tried (n - t) t trace ≡ records_tried n 0 trace)
 
 abbrev decreases-loop : tie.decreases-loop
 decreases-loop trace n t₀ t = n - t
@@ -30,9 +30,9 @@ enum-known-r : tie.Need-enum-known-r invariant-loop decreases-loop
 enum-known-r c = search rules
 
 -- what record t and the later ones come to
-after_one : (c : tie.After-one invariant-loop decreases-loop) → let t = c.before.before.loop.t in let n = c.before.before.before.requests.result in let tr = c.before.before.before.before.before.args.trace.now in next (said c.one.result) (recordsTried (n - (t + 1)) (t + 1) tr) ≡ recordsTried n 0 tr
+after_one : (c : tie.After-one invariant-loop decreases-loop) → let t = c.before.before.loop.t in let n = c.before.before.before.requests.result in let tr = c.before.before.before.before.before.args.trace.now in next (said c.one.result) (records_tried (n - (t + 1)) (t + 1) tr) ≡ records_tried n 0 tr
 after_one c =
-    record-then c.before.before.before.before.before.args.trace.now c.before.before.before.requests.result c.before.before.loop.t (said c.one.result) _ c.before.loop-test.true c.one.ensures c.before.before.loop.invariant.3
+    record_then c.before.before.before.before.before.args.trace.now c.before.before.before.requests.result c.before.before.loop.t (said c.one.result) _ c.before.loop-test.true c.one.ensures c.before.before.loop.invariant.3
 
 returns : tie.Need-returns invariant-loop decreases-loop
 returns c =

@@ -1,6 +1,6 @@
 -- Whether an item is held, by the flag of its previous request. Assumes nothing.
 use borrow.Author.Rules.{rules}
-use Rattle.ways.proofs.Branches.{held_by, none_before, no-request}
+use Rattle.ways.proofs.Branches.{held_is, none_before, no_request}
 use Rattle.ways.proofs.lists.is_held.Statement.{statement}
 use Rattle.ways.proofs.lists.is_held.Tie as tie
 
@@ -37,7 +37,7 @@ element-copy-out-result c = search rules
 returns : tie.Need-returns
 returns c =
     let a = c.before.before.before.before.before.args in
-    held_by a.flags.now a.from.now a.n a.t _ c.before.before.before.wide.ensures c.before.before.if1.true c.before.if2.true
+    held_is a.flags.now a.from.now a.n a.t _ c.before.before.before.wide.ensures c.before.before.if1.true c.before.if2.true
 
 returns-2 : tie.Need-returns-2
 returns-2 c =
@@ -47,7 +47,7 @@ returns-2 c =
 returns-3 : tie.Need-returns-3
 returns-3 c =
     let a = c.before.before.before.args in
-    no-request a.flags.now a.from.now a.n a.t _ c.before.wide.ensures c.if1.false
+    no_request a.flags.now a.from.now a.n a.t _ c.before.wide.ensures c.if1.false
 
 pub is-held-spec : {M : Type 1} → statement M
 is-held-spec =

@@ -2,14 +2,14 @@
 use borrow.Author.Rules.{rules}
 use Prim.Native.Nat.{◌-◌}
 use native.Mathlib.Omega.{arith}
-use Rattle.ways.proofs.Rows.{Laying, laying-start, laying-turn, laying-end}
-use Rattle.ways.proofs.Steps.{point-named, last-named, request-named}
-use Rattle.ways.specs.Ways.{pointSource, requestSource}
+use Rattle.ways.proofs.Rows.{Laying, laying_start, laying_turn, laying_end}
+use Rattle.ways.proofs.Steps.{point_named, last_named, request_named}
+use Rattle.ways.specs.Ways.{point_source, request_source}
 use Rattle.ways.proofs.origins.lay.Statement.{statement}
 use Rattle.ways.proofs.origins.lay.Tie as tie
 
 abbrev invariant-loop : tie.invariant-loop
-invariant-loop next prev n from₀ t₀ from t = Laying (pointSource n) (requestSource n next prev) n from₀ from t
+invariant-loop next prev n from₀ t₀ from t = Laying (point_source n) (request_source n next prev) n from₀ from t
 
 abbrev decreases-loop : tie.decreases-loop
 decreases-loop next prev n from₀ t₀ from t = n - t
@@ -18,7 +18,7 @@ loop-holds : tie.Need-loop-init invariant-loop decreases-loop
 loop-holds c =
     let s = c.before in
     let a = s.args in
-    laying-start (pointSource a.n) (requestSource a.n a.next.now a.prev.now) a.n a.from.now s.requires.1
+    laying_start (point_source a.n) (request_source a.n a.next.now a.prev.now) a.n a.from.now s.requires.1
 
 add-short : tie.Need-overflow-add-short invariant-loop decreases-loop
 add-short c = search rules
@@ -88,9 +88,9 @@ loop-again c =
     let s = c.before.before.before.before.before.before.before.before.before.before.before.before.before.before.before.before.before.before.before.before.before in
     let a = s.args in
     let l = c.before.before.before.before.before.before.before.before.before.before.before.before.before.before.before.before.before.before.before.loop in
-    laying-turn (pointSource a.n) (requestSource a.n a.next.now a.prev.now) a.n a.from.now l.from _ _ l.t _ _ _ _ _ _ l.invariant c.before.before.before.before.before.before.before.before.before.before.before.before.before.before.before.before.before.before.loop-test.true
-    (point-named a.next.now a.prev.now a.n l.t _ _ _ c.before.before.before.before.before.before.before.before.before.before.before.before.before.before.before.before.before.before.loop-test.true c.before.before.before.before.before.before.before.before.before.before.before.before.before.before.before.before.short.ensures c.before.before.before.before.before.before.before.before.before.before.before.before.before.before.before.short2.ensures c.before.before.before.before.before.before.before.before.before.before.before.before.before.before.before2.ensures)
-    (request-named a.next.now a.prev.now a.n l.t _ _ _ _ _ c.before.before.before.before.before.before.before.before.before.wide.ensures c.before.before.before.before.before.before.wide2.ensures c.before.before.before.before.before.before.before.before.node.ensures c.before.before.before.before.before.node2.ensures c.before.before.before.short3.ensures)
+    laying_turn (point_source a.n) (request_source a.n a.next.now a.prev.now) a.n a.from.now l.from _ _ l.t _ _ _ _ _ _ l.invariant c.before.before.before.before.before.before.before.before.before.before.before.before.before.before.before.before.before.before.loop-test.true
+    (point_named a.next.now a.prev.now a.n l.t _ _ _ c.before.before.before.before.before.before.before.before.before.before.before.before.before.before.before.before.before.before.loop-test.true c.before.before.before.before.before.before.before.before.before.before.before.before.before.before.before.before.short.ensures c.before.before.before.before.before.before.before.before.before.before.before.before.before.before.before.short2.ensures c.before.before.before.before.before.before.before.before.before.before.before.before.before.before.before2.ensures)
+    (request_named a.next.now a.prev.now a.n l.t _ _ _ _ _ c.before.before.before.before.before.before.before.before.before.wide.ensures c.before.before.before.before.before.before.wide2.ensures c.before.before.before.before.before.before.before.before.node.ensures c.before.before.before.before.before.node2.ensures c.before.before.before.short3.ensures)
     c.before.before.before.before.before.before.before.before.before.before.before.before.before.name.ensures c.before.before.name2.ensures
 
 short-requires-4 : tie.Need-short-requires-4 invariant-loop decreases-loop
@@ -113,8 +113,8 @@ returns c =
     let s = c.before.before.before.before.before.before.before.before.before.before in
     let a = s.args in
     let l = c.before.before.before.before.before.before.before.before.loop in
-    laying-end (pointSource a.n) (requestSource a.n a.next.now a.prev.now) a.n a.from.now l.from _ l.t _ _ _ l.invariant c.before.before.before.before.before.before.before.loop-test.false
-    (last-named a.next.now a.prev.now a.n _ _ _ c.before.before.before.before.before.short4.ensures c.before.before.before.before.short5.ensures c.before.before.before.before3.ensures) c.before.before.name3.ensures
+    laying_end (point_source a.n) (request_source a.n a.next.now a.prev.now) a.n a.from.now l.from _ l.t _ _ _ l.invariant c.before.before.before.before.before.before.before.loop-test.false
+    (last_named a.next.now a.prev.now a.n _ _ _ c.before.before.before.before.before.short4.ensures c.before.before.before.before.short5.ensures c.before.before.before.before3.ensures) c.before.before.name3.ensures
 
 pub lay-spec : {M : Type 1} → statement M
 lay-spec =

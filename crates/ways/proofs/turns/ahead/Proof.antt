@@ -1,6 +1,6 @@
 -- The way from the next request of an item. Assumes nothing.
 use borrow.Author.Rules.{rules}
-use Rattle.ways.proofs.Branches.{ahead-open, ahead-late, ahead_none}
+use Rattle.ways.proofs.Branches.{ahead_open, ahead_late, ahead_none}
 use Rattle.ways.proofs.turns.ahead.Statement.{statement}
 use Rattle.ways.proofs.turns.ahead.Tie as tie
 
@@ -58,12 +58,12 @@ given-up-requires c κs = search rules
 returns : tie.Need-returns
 returns c =
     let a = c.before.before.before.before.before.before.before.before.args in
-    ahead-open a.n a.from.now a.charges.now a.worth.now a.t _ c.before.before.before.before.before.before.wide.ensures _ c.before.before.before.before.before.if1.true c.before.before.before.before.if2.true c.given-up.ensures
+    ahead_open a.n a.from.now a.charges.now a.worth.now a.t _ c.before.before.before.before.before.before.wide.ensures _ c.before.before.before.before.before.if1.true c.before.before.before.before.if2.true c.given-up.ensures
 
 returns-2 : tie.Need-returns-2
 returns-2 c =
     let a = c.before.before.before.before.args in
-    ahead-late a.n a.from.now a.charges.now a.worth.now a.t _ c.before.before.wide.ensures c.before.if1.true c.if2.false
+    ahead_late a.n a.from.now a.charges.now a.worth.now a.t _ c.before.before.wide.ensures c.before.if1.true c.if2.false
 
 returns-3 : tie.Need-returns-3
 returns-3 c =

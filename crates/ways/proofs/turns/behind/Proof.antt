@@ -1,6 +1,6 @@
 -- The way from the previous request of an item. Assumes nothing.
 use borrow.Author.Rules.{rules}
-use Rattle.ways.proofs.Branches.{behind-open, behind-late, behind-none}
+use Rattle.ways.proofs.Branches.{behind_open, behind_late, behind_none}
 use Rattle.ways.proofs.turns.behind.Statement.{statement}
 use Rattle.ways.proofs.turns.behind.Tie as tie
 
@@ -49,17 +49,17 @@ taken-up-requires c κs = search rules
 returns : tie.Need-returns
 returns c =
     let a = c.before.before.before.before.before.before.before.before.args in
-    behind-open a.n a.from.now a.charges.now a.worth.now a.t _ c.before.before.before.before.before.before.wide.ensures _ c.before.before.before.before.before.if1.true c.before.before.before.before.if2.true c.taken-up.ensures
+    behind_open a.n a.from.now a.charges.now a.worth.now a.t _ c.before.before.before.before.before.before.wide.ensures _ c.before.before.before.before.before.if1.true c.before.before.before.before.if2.true c.taken-up.ensures
 
 returns-2 : tie.Need-returns-2
 returns-2 c =
     let a = c.before.before.before.before.args in
-    behind-late a.n a.from.now a.charges.now a.worth.now a.t _ c.before.before.wide.ensures c.before.if1.true c.if2.false
+    behind_late a.n a.from.now a.charges.now a.worth.now a.t _ c.before.before.wide.ensures c.before.if1.true c.if2.false
 
 returns-3 : tie.Need-returns-3
 returns-3 c =
     let a = c.before.before.before.args in
-    behind-none a.n a.from.now a.charges.now a.worth.now a.t _ c.before.wide.ensures c.if1.false
+    behind_none a.n a.from.now a.charges.now a.worth.now a.t _ c.before.wide.ensures c.if1.false
 
 pub behind-spec : {M : Type 1} → statement M
 behind-spec =

@@ -2,7 +2,7 @@
 use borrow.Author.Rules.{rules}
 use mathlib.Core.Path.{sym, ◌∙◌}
 use borrow.Author.Tests.{ne_eqb}
-use Rattle.ways.proofs.Branches.{gone_held, gone-still}
+use Rattle.ways.proofs.Branches.{gone_held, gone_still}
 use Rattle.ways.proofs.turns.dropped.Statement.{statement}
 use Rattle.ways.proofs.turns.dropped.Tie as tie
 
@@ -29,7 +29,7 @@ middle-requires c κs = search rules
 returns-2 : tie.Need-returns-2
 returns-2 c =
     let a = c.before.before.before.before.before.args in
-    gone-still a.n a.fill a.from.now a.charges.now a.flags.now a.worth.now a.t a.c _ _ _ (ne_eqb _ 1 c.before.before.before.before.before.requires.2) (sym c.before.before.before.is_held_lem.ensures ∙ c.before.before.if1.false) c.before.before.before.before.down.ensures c.before.behind.ensures c.middle.ensures
+    gone_still a.n a.fill a.from.now a.charges.now a.flags.now a.worth.now a.t a.c _ _ _ (ne_eqb _ 1 c.before.before.before.before.before.requires.2) (sym c.before.before.before.is_held_lem.ensures ∙ c.before.before.if1.false) c.before.before.before.before.down.ensures c.before.behind.ensures c.middle.ensures
 
 pub dropped-spec : {M : Type 1} → statement M
 dropped-spec =

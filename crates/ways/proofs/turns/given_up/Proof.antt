@@ -1,6 +1,6 @@
 -- What a slot loses for an item that is held no more. Assumes nothing.
 use borrow.Author.Rules.{rules}
-use Rattle.ways.proofs.Branches.{unheld-write, unheld-read}
+use Rattle.ways.proofs.Branches.{unheld_write, unheld_read}
 use Rattle.ways.proofs.turns.given_up.Statement.{statement}
 use Rattle.ways.proofs.turns.given_up.Tie as tie
 
@@ -17,10 +17,10 @@ minus-requires-3 : tie.Need-minus-requires-3
 minus-requires-3 c κs = search rules
 
 returns : tie.Need-returns
-returns c = let a = c.before.before.before.args in unheld-write a.q a.w a.c _ _ c.before.before.if1.true c.before.minus.ensures c.minus2.ensures
+returns c = let a = c.before.before.before.args in unheld_write a.q a.w a.c _ _ c.before.before.if1.true c.before.minus.ensures c.minus2.ensures
 
 returns-2 : tie.Need-returns-2
-returns-2 c = let a = c.before.before.before.args in unheld-read a.q a.w a.c _ _ c.before.before.if1.false c.before.plus.ensures c.minus3.ensures
+returns-2 c = let a = c.before.before.before.args in unheld_read a.q a.w a.c _ _ c.before.before.if1.false c.before.plus.ensures c.minus3.ensures
 
 pub given-up-spec : {M : Type 1} → statement M
 given-up-spec =

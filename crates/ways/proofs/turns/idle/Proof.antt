@@ -1,6 +1,6 @@
 -- The way from the point before. Assumes nothing.
 use borrow.Author.Rules.{rules}
-use Rattle.ways.proofs.Branches.{paid-back, first-point}
+use Rattle.ways.proofs.Branches.{paid_back, first_point}
 use Rattle.ways.proofs.turns.idle.Statement.{statement}
 use Rattle.ways.proofs.turns.idle.Tie as tie
 
@@ -23,10 +23,10 @@ minus-requires : tie.Need-minus-requires
 minus-requires c κs = search rules
 
 returns : tie.Need-returns
-returns c = let a = c.before.before.before.before.args in paid-back a.worth.now a.g _ c.before.before.before.if1.true c.minus.ensures
+returns c = let a = c.before.before.before.before.args in paid_back a.worth.now a.g _ c.before.before.before.if1.true c.minus.ensures
 
 returns-2 : tie.Need-returns-2
-returns-2 c = let a = c.before.args in first-point a.worth.now a.g c.if1.false
+returns-2 c = let a = c.before.args in first_point a.worth.now a.g c.if1.false
 
 pub idle_spec : {M : Type 1} → statement M
 idle_spec =

@@ -2,7 +2,7 @@
 use borrow.Author.Rules.{rules}
 use mathlib.Core.Path.{sym, ◌∙◌}
 use borrow.Author.Tests.{eq-eqb}
-use Rattle.ways.proofs.Branches.{kept-held, kept_new}
+use Rattle.ways.proofs.Branches.{kept_held, kept_new}
 use Rattle.ways.proofs.turns.kept.Statement.{statement}
 use Rattle.ways.proofs.turns.kept.Tie as tie
 
@@ -21,7 +21,7 @@ down-requires c κs = search rules
 returns : tie.Need-returns
 returns c =
     let a = c.before.before.before.before.before.args in
-    kept-held a.n a.fill a.from.now a.charges.now a.flags.now a.worth.now a.t a.c _ _ _ (eq-eqb _ 1 c.before.before.before.before.before.requires.3) (sym c.before.before.is_held_lem.ensures ∙ c.before.if1.true) c.down.ensures c.before.before.before.before.ahead.ensures c.before.before.before.middle.ensures
+    kept_held a.n a.fill a.from.now a.charges.now a.flags.now a.worth.now a.t a.c _ _ _ (eq-eqb _ 1 c.before.before.before.before.before.requires.3) (sym c.before.before.is_held_lem.ensures ∙ c.before.if1.true) c.down.ensures c.before.before.before.before.ahead.ensures c.before.before.before.middle.ensures
 
 add-t13 : tie.Need-overflow-add-t13
 add-t13 c = search rules

@@ -1,6 +1,6 @@
 -- The way from a point into its request. Assumes nothing.
 use borrow.Author.Rules.{rules}
-use Rattle.ways.proofs.Branches.{middle-write, middle-read}
+use Rattle.ways.proofs.Branches.{middle_write, middle_read}
 use Rattle.ways.proofs.turns.middle.Statement.{statement}
 use Rattle.ways.proofs.turns.middle.Tie as tie
 
@@ -13,7 +13,7 @@ element-copy-out-if1 c = search rules
 returns : tie.Need-returns
 returns c =
     let a = c.before.before.args in
-    middle-write a.n a.fill a.charges.now a.worth.now a.t c.if1.true
+    middle_write a.n a.fill a.charges.now a.worth.now a.t c.if1.true
 
 mul-plus : tie.Need-overflow-mul-plus
 mul-plus c = search rules
@@ -42,7 +42,7 @@ minus-requires c κs = search rules
 returns-2 : tie.Need-returns-2
 returns-2 c =
     let a = c.before.before.before.before.before.before.args in
-    middle-read a.n a.fill a.charges.now a.worth.now a.t _ _ c.before.before.before.before.if1.false c.before.before.plus.ensures c.minus.ensures
+    middle_read a.n a.fill a.charges.now a.worth.now a.t _ _ c.before.before.before.before.if1.false c.before.before.plus.ensures c.minus.ensures
 
 pub middle-spec : {M : Type 1} → statement M
 middle-spec =

@@ -1,7 +1,7 @@
 -- A worth that does not grow is not stored, and stays.
 use borrow.Author.Rules.{rules}
 use native.Mathlib.Omega.{arith}
-use Rattle.worths.proofs.Growth.{lift-none}
+use Rattle.worths.proofs.Growth.{lift_none}
 use Rattle.worths.proofs.grow.lift.Statement.{statement}
 use Rattle.worths.proofs.grow.lift.Tie as tie
 
@@ -36,7 +36,7 @@ returns-2 : tie.Need-returns-2
 returns-2 c =
     let w = c.before in
     let a = w.before.before.args in
-    lift-none a.worth.now a.v a.dist a.d (omega (arith, w.before.slice-known.given a.v)) (omega (arith, w.wide.ensures, c.if1.false))
+    lift_none a.worth.now a.v a.dist a.d (omega (arith, w.before.slice-known.given a.v)) (omega (arith, w.wide.ensures, c.if1.false))
 
 pub lift-spec : {M : Type 1} → statement M
 lift-spec =

@@ -4,7 +4,7 @@ use mathlib.Core.Path.{◌≡◌}
 use Prim.Native.Nat.{◌-◌, ◌≤◌}
 use native.Mathlib.Omega.{arith}
 use Rattle.worths.specs.Worths.{Rented}
-use Rattle.worths.proofs.Gaps.{rent-none, rent-more}
+use Rattle.worths.proofs.Gaps.{rent_none, rent_more}
 use Rattle.worths.proofs.name.name.Statement.{statement}
 use Rattle.worths.proofs.name.name.Tie as tie
 
@@ -15,7 +15,7 @@ abbrev decreases-loop : tie.decreases-loop
 decreases-loop worth n rents₀ g₀ rents g = n - g
 
 loop-holds : tie.Need-loop-init invariant-loop decreases-loop
-loop-holds c = (omega arith, rent-none _ _)
+loop-holds c = (omega arith, rent_none _ _)
 
 mul-less : tie.Need-overflow-mul-less invariant-loop decreases-loop
 mul-less c = search rules
@@ -54,7 +54,7 @@ loop-again : tie.Need-loop-preserved invariant-loop decreases-loop
 loop-again c =
     let l = c.before.before.before.before.before.loop in
     let e = c.before.wide.ensures in
-    (omega arith, rent-more _ _ l.rents l.g c.less.result (omega (arith, l.invariant.1.long)) (omega arith) l.invariant.1 (rw e at c.less.ensures))
+    (omega arith, rent_more _ _ l.rents l.g c.less.result (omega (arith, l.invariant.1.long)) (omega arith) l.invariant.1 (rw e at c.less.ensures))
 
 same_length : tie.Need-same-length invariant-loop decreases-loop
 same_length c = c.before.loop.invariant.1.long

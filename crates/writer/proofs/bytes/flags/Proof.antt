@@ -6,7 +6,7 @@ use native.Mathlib.Numerals.{add-one}
 use native.Mathlib.Omega.{arith}
 use lib.ListN.{length, take}
 use lib.Seq.{sets, length-sets, take_all}
-use Rattle.writer.proofs.Laying.{flag-more}
+use Rattle.writer.proofs.Laying.{flag_more}
 use Rattle.writer.proofs.bytes.flags.Statement.{statement}
 use Rattle.writer.proofs.bytes.flags.Tie as tie
 
@@ -41,7 +41,7 @@ loop-again : tie.Need-loop-preserved invariant-loop decreases-loop
 loop-again c =
     let l = c.before.before.loop in
     let a = c.before.before.before.args in
-    (search rules, rw (add-one, l.invariant.1) (flag-more a.buffer.now a.flags.now a.at l.t (omega arith)))
+    (search rules, rw (add-one, l.invariant.1) (flag_more a.buffer.now a.flags.now a.at l.t (omega arith)))
 
 same_length : tie.Need-same-length invariant-loop decreases-loop
 same_length c =

@@ -1,7 +1,7 @@
 -- Four stores, one after the other.
 use native.Mathlib.Omega.{arith}
 use lib.ListN.{length-set}
-use Rattle.writer.proofs.Laying.{four-stored}
+use Rattle.writer.proofs.Laying.{four_stored}
 use borrow.Author.Rules.{rules}
 use Rattle.writer.proofs.bytes.number.Statement.{statement}
 use Rattle.writer.proofs.bytes.number.Tie as tie
@@ -43,7 +43,7 @@ same_length : tie.Need-same-length
 same_length c = search rules
 
 returns : tie.Need-returns
-returns c = four-stored c.args.buffer.now c.args.at c.args.x (omega arith)
+returns c = four_stored c.args.buffer.now c.args.at c.args.x (omega arith)
 
 pub number-spec : {M : Type 1} → statement M
 number-spec =

@@ -1,6 +1,6 @@
 -- Each part begins where the one before it ends.
 use mathlib.Core.Path.{◌∙◌}
-use Rattle.writer.proofs.Laying.{plan-laid}
+use Rattle.writer.proofs.Laying.{plan_laid}
 use borrow.Author.Rules.{rules}
 use Rattle.writer.proofs.bytes.plan.Statement.{statement}
 use Rattle.writer.proofs.bytes.plan.Tie as tie
@@ -40,7 +40,7 @@ returns c =
     let l = h.before.before.before.before in
     let m = l.before.before.before.before in
     let a = m.before.before.before.before.before.args in
-    let done = plan-laid a.buffer.now a.cost a.flags.now a.rents.now in
+    let done = plan_laid a.buffer.now a.cost a.flags.now a.rents.now in
     r.rents.ensures ∙ rw (f.flags.ensures, h.number2.ensures, l.number.ensures, m.mark.ensures) done
 
 pub plan-spec : {M : Type 1} → statement M

@@ -6,13 +6,13 @@ use native.Mathlib.Numerals.{add-one}
 use native.Mathlib.Omega.{arith}
 use lib.ListN.{length, take}
 use lib.Seq.{sets, length-sets, take_all}
-use Rattle.fields.specs.Bytes.{bytesOfAll}
-use Rattle.writer.proofs.Laying.{rent-more}
+use Rattle.fields.specs.Bytes.{bytes_of_all}
+use Rattle.writer.proofs.Laying.{rent_more}
 use Rattle.writer.proofs.bytes.rents.Statement.{statement}
 use Rattle.writer.proofs.bytes.rents.Tie as tie
 
 abbrev invariant-loop : tie.invariant-loop
-invariant-loop buffer₀ at rents t₀ buffer t = (t ≤ length rents) × (buffer ≡ sets buffer₀ at (bytesOfAll 4 (take t rents)))
+invariant-loop buffer₀ at rents t₀ buffer t = (t ≤ length rents) × (buffer ≡ sets buffer₀ at (bytes_of_all 4 (take t rents)))
 
 abbrev decreases-loop : tie.decreases-loop
 decreases-loop buffer₀ at rents t₀ buffer t = length rents - t
@@ -36,7 +36,7 @@ number-requires : tie.Need-number-requires invariant-loop decreases-loop
 number-requires c κs =
     let l = c.before.before.before.loop in
     let a = c.before.before.before.before.before.before.args in
-    omega (arith, ap length l.invariant.1 ∙ length-sets a.buffer.now a.at (bytesOfAll 4 (take l.t a.rents.now)))
+    omega (arith, ap length l.invariant.1 ∙ length-sets a.buffer.now a.at (bytes_of_all 4 (take l.t a.rents.now)))
 
 add-t : tie.Need-overflow-add-t invariant-loop decreases-loop
 add-t c = search rules
@@ -48,13 +48,13 @@ loop-again : tie.Need-loop-preserved invariant-loop decreases-loop
 loop-again c =
     let l = c.before.before.before.before.before.before.loop in
     let a = c.before.before.before.before.before.before.before.before.before.args in
-    (search rules, c.before.before.number.ensures ∙ rw (add-one, l.invariant.1) (rent-more a.buffer.now a.rents.now a.at l.t (omega arith)))
+    (search rules, c.before.before.number.ensures ∙ rw (add-one, l.invariant.1) (rent_more a.buffer.now a.rents.now a.at l.t (omega arith)))
 
 same_length : tie.Need-same-length invariant-loop decreases-loop
 same_length c =
     let l = c.before.loop in
     let a = c.before.before.before.before.args in
-    ap length l.invariant.1 ∙ length-sets a.buffer.now a.at (bytesOfAll 4 (take l.t a.rents.now))
+    ap length l.invariant.1 ∙ length-sets a.buffer.now a.at (bytes_of_all 4 (take l.t a.rents.now))
 
 returns : tie.Need-returns invariant-loop decreases-loop
 returns c =

@@ -1,6 +1,6 @@
 -- Row 17 first, then row 19.
 use native.Mathlib.Omega.{arith}
-use Rattle.writer.proofs.Answered.{room-short, room-enough}
+use Rattle.writer.proofs.Answered.{room_short, room_enough}
 use borrow.Author.Rules.{rules}
 use Rattle.writer.proofs.rows.room.Statement.{statement}
 use Rattle.writer.proofs.rows.room.Tie as tie
@@ -29,12 +29,12 @@ add-if1-2 c = search rules
 returns-2 : tie.Need-returns-2
 returns-2 c =
     let a = c.before.before.before.before.before.args in
-    room-short a.rents.now a.room (rw c.before.enum_told.given.1 at c.before.before.before.rents-refusal.ensures) (omega arith)
+    room_short a.rents.now a.room (rw c.before.enum_told.given.1 at c.before.before.before.rents-refusal.ensures) (omega arith)
 
 returns-3 : tie.Need-returns-3
 returns-3 c =
     let a = c.before.before.before.before.before.args in
-    room-enough a.rents.now a.room (rw c.before.enum_told.given.1 at c.before.before.before.rents-refusal.ensures) (omega arith)
+    room_enough a.rents.now a.room (rw c.before.enum_told.given.1 at c.before.before.before.rents-refusal.ensures) (omega arith)
 
 pub room-spec : {M : Type 1} → statement M
 room-spec =

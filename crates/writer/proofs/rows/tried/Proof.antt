@@ -1,6 +1,6 @@
 -- Each return is one answer of the rows.
 use mathlib.Core.Path.{◌∙◌, sym}
-use Rattle.writer.proofs.Answered.{rents-off, replay-off, room-off, write_done}
+use Rattle.writer.proofs.Answered.{rents_off, replay-off, room-off, write_done}
 use borrow.Author.Rules.{rules}
 use Rattle.writer.proofs.rows.tried.Statement.{statement}
 use Rattle.writer.proofs.rows.tried.Tie as tie
@@ -15,7 +15,7 @@ returns : tie.Need-returns
 returns c =
     let d = c.before.before in
     let a = d.before.before.before.before.args in
-    rents-off a.trace.now a.flags.now a.rents.now a.room _ _ (λ e. c.before.if1.true (e ∙ sym d.requests.ensures.0)) c.uncounted.ensures
+    rents_off a.trace.now a.flags.now a.rents.now a.room _ _ (λ e. c.before.if1.true (e ∙ sym d.requests.ensures.0)) c.uncounted.ensures
 
 replay-requires : tie.Need-replay-requires
 replay-requires c κs = search rules
