@@ -1,4 +1,6 @@
 // The audit of a trace and a plan: total cost, read misses, fills and write hits, or one of refusals 1 to 17.
+#![tactic(auto)]
+
 ghost use Rattle.std.specs.Prelude.{◌≡◌};
 ghost use Rattle.audit.specs.Audit.{audit_of, said};
 

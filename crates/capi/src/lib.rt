@@ -1,5 +1,7 @@
 // The C interface of include/glazepouch.h: each function makes one proved call, answers 0 when the work is done, else the refusal's
 // number + 256 * its place, and on a refusal leaves what is lent as it was.
+#![tactic(auto)]
+
 ghost use Rattle.std.specs.Prelude.{◌≡◌, ◌+◌, ◌*◌, length};
 ghost use Rattle.plan.specs.PlanFile.{section_tried};
 ghost use Rattle.audit.specs.Audit.{audit_of};

@@ -1,4 +1,6 @@
 // `glazepouch chart TRACE PLAN`, behind the script at the root: an SVG picture of what is held when, or the refusal of the plan.
+#![tactic(auto)]
+
 mod frame;
 mod marks;
 mod out;

@@ -1,5 +1,7 @@
 // Numbers in decimal digits, without leading zeros: how many there are, laying them into a lent page, and reading the number that
 // stands at a place of a text.
+#![tactic(auto)]
+
 ghost use Rattle.std.specs.Prelude.{◌≡◌, drop, length, ◌≤◌};
 ghost use Rattle.pages.specs.Pages.{filled, write};
 ghost use Rattle.decimal.specs.Decimal.{decimal, digit_in, digits_from};

@@ -1,5 +1,7 @@
 // Files by name: a whole file, or standard input, into a lent buffer, and a file that is written
 // whole or not at all. What went wrong is said on standard error, as `NAME: reason`.
+#![tactic(auto)]
+
 mod part;
 
 ghost use Rattle.disk.specs.Load.{Holds};

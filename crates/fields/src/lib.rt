@@ -1,5 +1,7 @@
 // Numbers in bytes, least byte first, read at any place of any slice: past the end bytes count as 0.
 // It knows nothing of what the files mean.
+#![tactic(auto)]
+
 ghost use Rattle.std.specs.Prelude.{◌≡◌, ◌+◌, ◌*◌, ◌<◌, get_or};
 ghost use Rattle.fields.specs.Bytes.{num_at};
 

@@ -1,4 +1,6 @@
 // The decimal digits of a float, without rounding.
+#![tactic(auto)]
+
 mod digits;
 
 ghost use Rattle.std.specs.Prelude.{◌≡◌};

@@ -1,4 +1,6 @@
 // The floor of a trace and a list of rents: a signed number, or one of refusals 1 to 8, 11, 17.
+#![tactic(auto)]
+
 ghost use Rattle.std.specs.Prelude.{◌≡◌};
 ghost use Rattle.floor.specs.Floor.{floor_of, said};
 ghost use Rattle.floor.specs.Sides.{sides_of, said_sides};

@@ -1,5 +1,7 @@
 // What a search keeps of the nodes that it has still to look at: a stack of those that it reached at the distance where it stands,
 // and a list of those that wait further off.
+#![tactic(auto)]
+
 mod passes;
 
 ghost use Rattle.std.specs.Prelude.{◌≡◌, ◌<◌, min, length, take};

@@ -1,4 +1,6 @@
 // `glazepouch`: the engineer's program. Each command reads its files, asks the proved library, and says the answer in words.
+#![tactic(auto)]
+
 mod said;
 mod solving;
 mod words;

@@ -1,4 +1,6 @@
 // The judge: it accepts a plan only if nothing allowed is cheaper. It knows of plans only by their files.
+#![tactic(auto)]
+
 ghost use Rattle.std.specs.Prelude.{◌≡◌, not};
 ghost use Rattle.std.proofs.Math.IntN.{sub_ℕ};
 ghost use Rattle.model.specs.Refusals.{passes, row, answer};

@@ -1,5 +1,7 @@
 // Which slot row each keep of a plan is drawn in, for a chart: time from left to right, one row a slot.
 // It knows nothing of plan files and rents.
+#![tactic(auto)]
+
 ghost use Rattle.lanes.specs.Lanes.{Laned};
 
 use model::{Outcome, Requests};

@@ -1,4 +1,6 @@
 // The one line that a program prints as its answer, laid from the start of a lent page. Each call answers how long the line is.
+#![tactic(auto)]
+
 ghost use Rattle.std.specs.Prelude.{◌≡◌, take};
 ghost use Rattle.pages.specs.Pages.{Lies};
 ghost use Rattle.lines.specs.Lines.{least_line, accepted_line, refused_line};

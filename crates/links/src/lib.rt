@@ -1,4 +1,6 @@
 // The next and the previous request of the same item, for each request of a trace, in lists of at most n numbers.
+#![tactic(auto)]
+
 ghost use Rattle.links.specs.Promise.{Filled};
 
 use model::Requests;

@@ -1,4 +1,6 @@
 // What the solver starts from: where the ways of a trace's network come from, what its requests pay, and the first worths.
+#![tactic(auto)]
+
 ghost use Rattle.opening.specs.Opened.{Opened};
 
 use model::Requests;

@@ -1,5 +1,7 @@
 // Bytes laid into a lent page, one run after the other: each call is told how far the page is filled, and answers how far it is
 // filled then. What does not fit is left out, so every call is total.
+#![tactic(auto)]
+
 ghost use Rattle.std.specs.Prelude.{◌≡◌, take, replicate};
 ghost use Rattle.pages.specs.Pages.{filled, put, write};
 

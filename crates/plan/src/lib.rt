@@ -1,5 +1,7 @@
 // Plan files: the refusals 9 to 12 on top of a trace's, the stated cost, and the flags and rents as parts of the plan's own bytes.
 // It knows nothing of what flags and rents mean.
+#![tactic(auto)]
+
 ghost use Rattle.std.specs.Prelude.{◌≡◌, ◌+◌, ◌<◌, get_or};
 ghost use Rattle.model.specs.Refusals.{said};
 ghost use Rattle.plan.specs.PlanFile.{stated_at, rent_in, section_tried, flags_of, rents_of, rents_tried};

@@ -1,4 +1,6 @@
 // The gap ratio of a least cost and a measured one: one exact division, or the word that there is none.
+#![tactic(auto)]
+
 ghost use Rattle.std.specs.Prelude.{◌≡◌};
 ghost use Rattle.ratio.specs.Ratio.{said, ratio_of};
 

@@ -1,5 +1,7 @@
 // The bytes of a trace file, piece by piece, for programs that make their own traces. No limit of
 // document 01 is kept here, so that a trace that breaks one can be made too.
+#![tactic(auto)]
+
 ghost use Rattle.std.specs.Prelude.{◌≡◌, take};
 ghost use Rattle.records.specs.Records.{head_of, record_of, laid};
 

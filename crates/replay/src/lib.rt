@@ -1,5 +1,7 @@
 // Replay of flags on a trace: the refusals 13, 14 and 15, and the charge of every request.
 // It knows nothing of plan files and rents.
+#![tactic(auto)]
+
 ghost use Rattle.std.specs.Prelude.{◌≡◌};
 ghost use Rattle.replay.specs.Replay.{replay_of};
 ghost use Rattle.replay.specs.Answers.{said, totals_in};

@@ -1,4 +1,6 @@
 // A schedule of a plan: what each request pays and why, as numbers and as a line laid into a lent page.
+#![tactic(auto)]
+
 mod numbers;
 
 ghost use Rattle.std.specs.Prelude.{◌≡◌};

@@ -1,4 +1,6 @@
 // Sentences, laid into a lent page: a text with its numbers, and each refusal in words.
+#![tactic(auto)]
+
 ghost use Rattle.std.specs.Prelude.{◌≡◌, ◌-◌, min, get_or, take};
 ghost use Rattle.pages.specs.Pages.{Lies, Cut};
 ghost use Rattle.sentences.specs.Spelled.{column_of, zeros_of, shown_of, sign_of, next_word, spelled};

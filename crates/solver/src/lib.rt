@@ -1,4 +1,6 @@
 // The solver: for every sound trace a plan that the judge accepts. It uses only the promises of the lower crates.
+#![tactic(auto)]
+
 ghost use Rattle.solver.specs.Solve.{Promise};
 
 use model::Refusal;

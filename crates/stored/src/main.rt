@@ -4,6 +4,8 @@
 // makes the file `stdin` again; the file `stdout` names how many traces it was asked for.
 //
 // A trace is stored as its length in two bytes, its bytes, and its least cost in four.
+#![tactic(auto)]
+
 use judge::Judged;
 use libc::{STDIN_FILENO, STDOUT_FILENO};
 use solver::Solved;

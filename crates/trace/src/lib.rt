@@ -1,5 +1,7 @@
 // Trace files: every byte slice is answered with the header, or with a refusal 1 to 8 and its place.
 // The readers are total: past the end bytes count as 0. It knows nothing of plans.
+#![tactic(auto)]
+
 ghost use Rattle.std.specs.Prelude.{◌≡◌, ◌<◌};
 ghost use Rattle.trace.specs.TraceFile.{slots_at, requests_at, fill_at, item_at, kind_at, cost_at};
 ghost use Rattle.trace.specs.Answers.{said, check_of};

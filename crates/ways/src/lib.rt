@@ -1,5 +1,7 @@
 // The ways into each node of the network that is left over the flags: where each comes from, and how long it is.
 // Node g is point g, which stands before request g; node n + 1 + t is request t. Way `kind` into node u stands at place 3 u + kind.
+#![tactic(auto)]
+
 ghost use Rattle.std.specs.Prelude.{◌≡◌};
 ghost use Rattle.ways.specs.Promise.{Sourced, Charged, Measured};
 

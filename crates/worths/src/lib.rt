@@ -1,6 +1,8 @@
 // The worths of points and requests, in a list: where they start, how they are raised, what rents they name.
 // Of a trace of n requests point g stands at place g, up to point n, and request t at place n + 1 + t.
 // It knows nothing of flags and of ways.
+#![tactic(auto)]
+
 ghost use Rattle.worths.specs.Worths.{Started, Raised, Rented};
 
 use model::Requests;

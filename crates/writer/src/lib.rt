@@ -1,4 +1,6 @@
 // Writing a plan file from a trace, flags and rents: the cost is worked out, and a refusal leaves the buffer as it was.
+#![tactic(auto)]
+
 ghost use Rattle.writer.specs.Promise.{Wrote};
 
 use model::Refusal;
