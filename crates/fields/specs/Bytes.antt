@@ -1,5 +1,5 @@
 -- Numbers in bytes, least byte first. Assumes nothing.
-use Rattle.std.specs.Prelude.{ℕ, zero, suc, ◌+◌, ◌*◌, ◌/◌, ◌%◌, Bool, true, false, ◌&&◌, List, [], ◌∷◌, ◌++◌, length, get_or, take, drop, eqb}
+use Rattle.std.specs.Prelude.{ℕ, zero, suc, ◌+◌, ◌*◌, ◌/◌, ◌%◌, Bool, true, ◌&&◌, List, [], ◌∷◌, ◌++◌, get_or, eqb}
 
 -- the number in the k bytes from place `at` on; past the end bytes count as 0
 unfoldable pub num_at : (k at : ℕ) → List ℕ → ℕ

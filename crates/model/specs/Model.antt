@@ -1,7 +1,7 @@
 -- The model of document 01, in its order: traces, contents, what is allowed, the charges, one item on its own, the floor, the least cost.
 -- Requests are a list. Request t + 1 of the paper stands between gap t and gap t + 1; gap 0 is before the first request.
 -- Contents say for each gap and item whether the item is held there; rents say each gap's price. Assumes nothing.
-use Rattle.std.specs.Prelude.{◌≡◌, ℕ, zero, suc, ◌+◌, ◌*◌, ◌≤◌, min, Bool, true, false, cond, ◌||◌, ◌&&◌, not, List, [], ◌∷◌, length, eqb, ℤ}
+use Rattle.std.specs.Prelude.{◌≡◌, ℕ, suc, ◌+◌, ◌*◌, ◌≤◌, min, Bool, true, false, cond, ◌||◌, ◌&&◌, not, List, [], ◌∷◌, length, eqb, ℤ}
 use Rattle.std.proofs.Math.IntN.{sub_ℕ}
 
 -- ---- traces

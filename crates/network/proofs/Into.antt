@@ -1,6 +1,6 @@
 -- The ways into a node, as a search back from the last point meets them, and the nodes that there are. Assumes nothing.
 use mathlib.Core.Path.{◌≡◌, refl, sym, ◌∙◌, ap}
-use Prim.Native.Nat.{ℕ, zero, suc, ◌+◌, ◌≤◌, ◌<◌}
+use Prim.Native.Nat.{ℕ, suc, ◌+◌, ◌≤◌, ◌<◌}
 use native.Mathlib.Omega.{arith}
 use mathlib.Core.Bool.{true, false}
 use Rattle.model.specs.Model.{Trace}
@@ -29,17 +29,17 @@ module _ (tr : Trace) (k : ℕ) (x : Flags) (P Q : ℕ → ℕ) where
         → (g < count tr → fills_at tr x g ≡ true → B (node tr g) 0)
         → ((len : ℕ) → g < count tr → fills_at tr x g ≡ false → Q g ≡ P g + len → B (node tr g) len)
         → (v len : ℕ) → Residual tr k x P Q v g len → B v len
-    into-point g l b₁ b₂ b₃ b₄ v len r = go g v len r refl
+    into-point g l b₁ b₂ b₃ b₄ v len r = go v g len r refl
       where
-        go : (u v len : ℕ) → Residual tr k x P Q v u len → u ≡ g → B v len
-        go u v len (idle h m i e) q = b₁ h m q (rw (← q) e)
-        go u v len (unidle h i c) q = rw q (b₂ (omega arith) (rw q at c))
-        go u v len (undrop t i c) q = absurd (omega arith)
-        go u v len (fill t m i r c e) q = absurd (omega arith)
-        go u v len (unfill t i c) q = rw q (b₃ (omega arith) (rw q at c))
-        go u v len (drop t m i c e) q = rw q (b₄ m (omega arith) (rw q at c) (rw q at e))
-        go u v len (hold t m i n a e) q = absurd (omega arith)
-        go u v len (unhold t m i n a e) q = absurd (omega arith)
+        go : (v u len : ℕ) → Residual tr k x P Q v u len → u ≡ g → B v len
+        go v u len (idle h m i e) q = b₁ h m q (rw (← q) e)
+        go v u len (unidle h i c) q = rw q (b₂ (omega arith) (rw q at c))
+        go v u len (undrop t i c) q = absurd (omega arith)
+        go v u len (fill t m i r c e) q = absurd (omega arith)
+        go v u len (unfill t i c) q = rw q (b₃ (omega arith) (rw q at c))
+        go v u len (drop t m i c e) q = rw q (b₄ m (omega arith) (rw q at c) (rw q at e))
+        go v u len (hold t m i n a e) q = absurd (omega arith)
+        go v u len (unhold t m i n a e) q = absurd (omega arith)
 
     -- into a request: from its point, from its item's previous request, or from its next where it is held up to that
     pub into-request : (t : ℕ) → t < count tr
@@ -50,17 +50,17 @@ module _ (tr : Trace) (k : ℕ) (x : Flags) (P Q : ℕ → ℕ) where
         → ((len : ℕ) → next tr t < count tr → after x t ≡ true
         → Q (next tr t) + missed tr (next tr t) ≡ Q t + struck tr (next tr t) + len → B (node tr (next tr t)) len)
         → (v len : ℕ) → Residual tr k x P Q v (node tr t) len → B v len
-    into-request t l b₁ b₂ b₃ b₄ v len r = go (node tr t) v len r refl
+    into-request t l b₁ b₂ b₃ b₄ v len r = go v (node tr t) len r refl
       where
-        go : (u v len : ℕ) → Residual tr k x P Q v u len → u ≡ node tr t → B v len
-        go u v len (idle h m i e) q = absurd (omega arith)
-        go u v len (unidle h i c) q = absurd (omega arith)
-        go u v len (undrop s i c) q = let z : s ≡ t = omega arith in rw z (b₁ (rw z at c))
-        go u v len (fill s m i r c e) q = let z : s ≡ t = omega arith in rw z (b₂ m (rw z at r) (rw z at c) (rw z at e))
-        go u v len (unfill s i c) q = absurd (omega arith)
-        go u v len (drop s m i c e) q = absurd (omega arith)
-        go u v len (hold s m i n a e) q =
+        go : (v u len : ℕ) → Residual tr k x P Q v u len → u ≡ node tr t → B v len
+        go v u len (idle h m i e) q = absurd (omega arith)
+        go v u len (unidle h i c) q = absurd (omega arith)
+        go v u len (undrop s i c) q = let z : s ≡ t = omega arith in rw z (b₁ (rw z at c))
+        go v u len (fill s m i r c e) q = let z : s ≡ t = omega arith in rw z (b₂ m (rw z at r) (rw z at c) (rw z at e))
+        go v u len (unfill s i c) q = absurd (omega arith)
+        go v u len (drop s m i c e) q = absurd (omega arith)
+        go v u len (hold s m i n a e) q =
             let z : next tr s ≡ t = omega arith in
             b₃ s m (ap (prev_of tr.reqs) (sym z) ∙ prev_of_next tr.reqs s n) i a (rw z at e)
-        go u v len (unhold s m i n a e) q =
+        go v u len (unhold s m i n a e) q =
             let z : s ≡ t = omega arith in rw z (b₄ m (rw z at n) (rw z at a) (rw z at e))
