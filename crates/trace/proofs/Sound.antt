@@ -12,7 +12,7 @@ use Rattle.model.specs.Plans.{request_at}
 use Rattle.model.specs.Links.{listed}
 use Rattle.model.proofs.Links.{length-listed, get_d_listed}
 use Rattle.model.specs.Numbers.{max_cost, CostsWithin, Within}
-use Rattle.model.specs.Refusals.{Tried, passes, row, Answer}
+use Rattle.model.specs.Refusals.{passes, row, Answer}
 use Rattle.model.proofs.Refusals.{row_passes}
 use Rattle.trace.specs.TraceFile.{requests_at, kind_at, zero_at, cost_at, marked_trace, records_tried, trace_tried, request_in, trace_in, SoundTrace}
 use Rattle.trace.proofs.Records.{record_by_record}

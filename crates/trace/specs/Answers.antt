@@ -1,6 +1,6 @@
 -- What the calls of `trace` answer, by document 01's numbers. Assumes nothing.
 use Rattle.std.specs.Prelude.{ℕ, List}
-use Rattle.model.specs.Refusals.{Tried, Answer, fine, refused, answer}
+use Rattle.model.specs.Refusals.{Answer, fine, refused, answer}
 use Rattle.trace.specs.TraceFile.{slots_at, requests_at, fill_at, first_at, trace_tried}
 use Rattle.trace.specs.declared.Header.{Header}
 use Rattle.trace.specs.declared.Checked.{Checked}

@@ -1,6 +1,6 @@
 -- Trace files of document 01: where each number lies, the rows 1 to 8, and the trace that the bytes hold.
 -- Records are counted from 0: record t is request t + 1. Assumes nothing.
-use Rattle.std.specs.Prelude.{◌≡◌, ℕ, zero, suc, ◌+◌, ◌*◌, ◌≤◌, ◌<◌, Bool, true, false, cond, ◌||◌, ◌&&◌, not, List, [], ◌∷◌, ◌++◌, length, get_or, eqb, ltb}
+use Rattle.std.specs.Prelude.{◌≡◌, ℕ, zero, suc, ◌+◌, ◌*◌, ◌≤◌, ◌<◌, Bool, cond, ◌||◌, ◌&&◌, not, List, [], ◌∷◌, ◌++◌, length, get_or, eqb, ltb}
 use Rattle.fields.specs.Bytes.{num_at, bytes_of, stand_at}
 use Rattle.model.specs.Model.{Rules, Request, Trace}
 use Rattle.model.specs.Links.{listed}
