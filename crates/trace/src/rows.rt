@@ -51,6 +51,7 @@ pub fn marked(trace: &[u8]) -> bool
 }
 
 // Rows 1 to 6.
+#[tactic(auto, unfolding(crate::specs::TraceFile::trace_tried))]
 pub fn head(trace: &[u8]) -> Outcome
     ensures { next (said result) (records_tried (requests_at trace.now) 0 trace.now) ≡ trace_tried trace.now }
 {
