@@ -1,9 +1,8 @@
 -- Laws of refusals 1 to 12 together, and of the parts that are handed out. Assumes nothing.
-use mathlib.Core.Path.{◌≡◌, refl}
+use mathlib.Core.Path.{◌≡◌}
 use Prim.Native.Nat.{ℕ}
-use native.Mathlib.Omega.{arith}
 use mathlib.Core.List.{List}
-use Rattle.model.specs.Refusals.{Tried, passes, refusal, fine, refused, next, answer}
+use Rattle.model.specs.Refusals.{passes}
 use Rattle.model.proofs.Refusals.{next_passes}
 use Rattle.trace.specs.TraceFile.{requests_at, trace_tried}
 use Rattle.plan.specs.PlanFile.{section_tried, plan_tried}

@@ -2,7 +2,7 @@
 use mathlib.Core.Path.{◌≡◌, refl, ◌∙◌, ap}
 use Prim.Native.Nat.{ℕ, zero, suc, ◌+◌, ◌*◌, ◌≤◌}
 use native.Mathlib.Omega.{arith}
-use mathlib.Core.Bool.{Bool, true, false, ◌&&◌, not, false≢true}
+use mathlib.Core.Bool.{true, not}
 use mathlib.Core.List.{List, [], ◌∷◌}
 use lib.ListN.{length, get_or}
 use lib.Dec.{eqb, ltb}
@@ -10,7 +10,7 @@ use borrow.Author.Tests.{eqb-true, eq-eqb, ltb-false, le-ltb, not-false}
 use Rattle.model.proofs.Refusals.{row_passes, both_true}
 use Rattle.fields.specs.Bytes.{num_at, stand_at}
 use Rattle.model.specs.Numbers.{max_rent}
-use Rattle.model.specs.Refusals.{Tried, passes, refusal, row, said}
+use Rattle.model.specs.Refusals.{Tried, passes, said}
 use Rattle.model.specs.declared.Outcome.{Outcome}
 use Rattle.model.specs.declared.Outcome.TheVariants.{Sound, Refused}
 use Rattle.plan.specs.PlanFile.{shape_of, length_of, marked_plan, plan_tried, rents_tried}

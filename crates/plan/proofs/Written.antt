@@ -3,7 +3,7 @@ use mathlib.Core.Path.{◌≡◌, refl, sym, ◌∙◌, ap}
 use Prim.Native.Nat.{ℕ, ◌+◌, ◌*◌, ◌≤◌, ◌<◌}
 use native.Mathlib.Omega.{arith}
 use mathlib.Core.List.{List, [], ◌∷◌, ◌++◌, append_assoc, append-nil}
-use lib.ListN.{length, get_or, take, drop, length-append}
+use lib.ListN.{length, get_or, length-append}
 use lib.Seq.{take_all, take_at, drop_at, ext_get_or}
 use Rattle.fields.specs.Bytes.{num_at, bytes_of, bytes_of_all}
 use Rattle.fields.proofs.Bytes.{AllBelow, length-bytes, num_bytes_after, length-bytes_all, num_bytes_all}

@@ -1,5 +1,5 @@
 -- Plan files of document 01: their shape, the rows 9 to 12, the parts, row 17, and the bytes of a plan. Assumes nothing.
-use Rattle.std.specs.Prelude.{◌≡◌, ℕ, zero, suc, ◌+◌, ◌*◌, ◌≤◌, ◌<◌, Bool, true, false, cond, ◌||◌, ◌&&◌, not, List, [], ◌∷◌, ◌++◌, length, get_or, take, drop, eqb, ltb}
+use Rattle.std.specs.Prelude.{ℕ, suc, ◌+◌, ◌*◌, Bool, ◌&&◌, not, List, [], ◌∷◌, ◌++◌, length, get_or, take, drop, eqb, ltb}
 use Rattle.fields.specs.Bytes.{num_at, bytes_of, bytes_of_all, stand_at}
 use Rattle.model.specs.Links.{listed}
 use Rattle.model.specs.Numbers.{max_rent}

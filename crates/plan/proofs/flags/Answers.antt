@@ -1,0 +1,14 @@
+use Rattle.std.proofs.Common.{arith, sym}
+use Rattle.trace.specs.TraceFile.{requests_at}
+use Rattle.plan.proofs.Sound.{SoundPlan}
+use Rattle.plan.proofs.Sections.{section_sound}
+use Rattle.plan.proofs.flags.Goals as goal
+use Rattle.plan.proofs.flags.Goals.{After-requests}
+
+-- the plan has none of 1 to 12
+sound : (c : After-requests) → SoundPlan (requests_at c.args.trace.now) c.args.plan.now
+sound c = section_sound _ _ (sym (rw c.in-Sound.is at c.refusal.ensures))
+
+pub slice_bounds-result-end-in-Sound : goal.slice_bounds-result-end-in-Sound
+slice_bounds-result-end-in-Sound c =
+    omega (arith, (sound (goal.at.slice_bounds-result-end-in-Sound c).After-requests).long, c.requests.ensures.0)
