@@ -1,5 +1,5 @@
 -- From what checking a trace answers to what the lent lists hold, and that a promise permits one outcome. Assumes nothing.
-use mathlib.Core.Path.{◌≡◌, refl, sym, ◌∙◌, ap}
+use mathlib.Core.Path.{◌≡◌, sym, ◌∙◌, ap}
 use Prim.Native.Nat.{ℕ, ◌≤◌, ◌<◌}
 use native.Mathlib.Omega.{arith}
 use mathlib.Core.List.{List, ◌++◌}
@@ -8,7 +8,7 @@ use Rattle.model.specs.Numbers.{max_requests}
 use Rattle.model.specs.Model.{Request}
 use Rattle.model.specs.Plans.{request_at}
 use Rattle.model.specs.Links.{next_of, prev_of, listed}
-use Rattle.model.specs.Refusals.{Tried, passes, refusal, fine, refused, answer}
+use Rattle.model.specs.Refusals.{Tried, passes}
 use Rattle.model.specs.declared.Refusal.{Refusal}
 use Rattle.model.proofs.Links.{length-listed, get_d_listed}
 use Rattle.model.proofs.Refusals.{answer_fine, answer_refused}

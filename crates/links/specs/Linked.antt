@@ -1,9 +1,9 @@
 -- What a trace's lists of next and previous requests hold. Requests are counted from 0, and none is n. Assumes nothing.
 use Rattle.std.specs.Prelude.{ℕ, List, ◌++◌, length, drop}
-use Rattle.model.specs.Model.{Request, Trace}
+use Rattle.model.specs.Model.{Request}
 use Rattle.model.specs.Links.{next_of, prev_of, listed}
 use Rattle.model.specs.Refusals.{Tried, passes, refusal}
-use Rattle.trace.specs.TraceFile.{requests_at, trace_tried, trace_in}
+use Rattle.trace.specs.TraceFile.{trace_tried, trace_in}
 
 -- the next request of each request
 abbrev pub nexts : List Request → List ℕ
