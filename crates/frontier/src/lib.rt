@@ -50,6 +50,7 @@ fn wide(x: u32) -> u64
 }
 
 // Offers node v the distance e by way of u. Most offers change nothing, so that is tested first.
+#[tactic(auto, unfolding(crate::specs::Frontier::offered))]
 pub fn offer(
     dist: &mut [u32; 2050],
     hop: &mut [u16; 2050],
