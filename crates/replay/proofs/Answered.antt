@@ -1,11 +1,10 @@
 -- From the answers of the calls that a replay makes to its own. Assumes nothing.
-use mathlib.Core.Path.{◌≡◌, refl, ap}
+use mathlib.Core.Path.{◌≡◌, ap}
 use Prim.Native.Nat.{ℕ}
-use native.Mathlib.Omega.{arith}
 use mathlib.Core.List.{List}
 use lib.ListN.{length}
 use borrow.Author.Tests.{eq-eqb, ne_eqb}
-use Rattle.model.specs.Refusals.{Tried, passes, refusal, fine, refused, answer}
+use Rattle.model.specs.Refusals.{passes, refusal, fine, refused}
 use Rattle.model.proofs.Refusals.{answer_fine, answer_refused}
 use Rattle.trace.specs.TraceFile.{requests_at, trace_tried, trace_in}
 use Rattle.trace.specs.Answers.{header_in, check_of}

@@ -8,10 +8,10 @@ use lib.ListN.{length}
 use lib.Dec.{eqb, ltb}
 use borrow.Author.Tests.{ltb-false, le-ltb, eqb-true, not-false}
 use native.Mathlib.Decide.{dec_lt}
-use Rattle.model.specs.Model.{Rules, Request, Trace, Contents, Allowed, items, misses, fills, strikes, count}
-use Rattle.model.specs.Plans.{Flags, flags_in, contents, may_flag, FlagsFrom, occupancy, SoundFlags}
+use Rattle.model.specs.Model.{Rules, Request, Trace, Contents, Allowed, items, misses, fills, strikes}
+use Rattle.model.specs.Plans.{Flags, flags_in, may_flag, FlagsFrom, occupancy, SoundFlags}
 use Rattle.model.specs.Numbers.{max_requests, max_plan_cost}
-use Rattle.model.specs.Refusals.{Tried, passes, refusal, next, Answer, answer}
+use Rattle.model.specs.Refusals.{passes, Answer}
 use Rattle.model.proofs.Sums.{sum_zero}
 use Rattle.model.proofs.Plans.{flags_name_allowed}
 use Rattle.model.proofs.Bounds.{no_plan_above}
@@ -20,7 +20,6 @@ use Rattle.trace.specs.TraceFile.{requests_at, trace_tried, trace_in}
 use Rattle.trace.proofs.Sound.{sound_trace, trace_within, reqs_length}
 use Rattle.replay.specs.Replay.{values_tried, stands_tried, room_tried, named, flags_tried, count_tried, Totals, totals_of, replay_tried}
 use Rattle.replay.specs.Answers.{totals_in, said}
-use Rattle.replay.specs.declared.Totals as code
 use Rattle.replay.specs.declared.Replayed.{Replayed}
 use Rattle.replay.specs.declared.Replayed.TheVariants.{Done, Refused}
 use Rattle.replay.proofs.Counting.{no_count_above}

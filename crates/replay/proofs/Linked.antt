@@ -8,7 +8,7 @@ use lib.ListN.{length, get_or, drop}
 use lib.Dec.{eqb}
 use borrow.Author.Tests.{eq-eqb, lt-ltb, le-ltb}
 use Rattle.model.specs.Model.{Rules, Request, may}
-use Rattle.model.specs.Plans.{request_at, flags_in, contents, may_flag}
+use Rattle.model.specs.Plans.{request_at, flags_in, may_flag}
 use Rattle.model.proofs.Links.{held-prev, has_next}
 use Rattle.model.proofs.Sums.{split}
 use Rattle.trace.specs.TraceFile.{requests_at, kind_at, rules_in, trace_in}

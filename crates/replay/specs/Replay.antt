@@ -1,5 +1,5 @@
 -- Replay of flags on a trace: the rows 13, 14 and 15, each over the whole input before the next, and the totals. Assumes nothing.
-use Rattle.std.specs.Prelude.{ℕ, zero, suc, Bool, true, false, ◌&&◌, not, List, [], ◌∷◌, length, eqb, ltb}
+use Rattle.std.specs.Prelude.{ℕ, suc, ◌&&◌, not, List, [], ◌∷◌, length, eqb, ltb}
 use Rattle.model.specs.Model.{Rules, Request, Trace, Contents, misses, fills, strikes, cost, count}
 use Rattle.model.specs.Plans.{Flags, flags_in, contents, may_flag, occupancy}
 use Rattle.model.specs.Refusals.{Tried, passes, row, next, Answer, answer}
