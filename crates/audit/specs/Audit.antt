@@ -1,6 +1,6 @@
 -- The audit of a trace and a plan: refusals 1 to 17, or the totals. Assumes nothing.
 use Rattle.std.specs.Prelude.{ℕ, not, List, eqb}
-use Rattle.model.specs.Model.{Trace, cost}
+use Rattle.model.specs.Model.{cost}
 use Rattle.model.specs.Refusals.{Tried, passes, row, next, Answer, fine, refused, answer}
 use Rattle.trace.specs.TraceFile.{requests_at, trace_in}
 use Rattle.plan.specs.PlanFile.{shape_of, flags_part, rents_at, stated_at, section_tried, rents_tried}
