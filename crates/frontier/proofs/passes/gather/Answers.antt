@@ -4,7 +4,6 @@ use native.Mathlib.Omega.{arith}
 use lib.ListN.{length, length-set}
 use Rattle.frontier.proofs.Turns.{gather_turn, gather_begin}
 use Rattle.frontier.proofs.passes.gather.Goals as goal
-use Rattle.frontier.proofs.passes.gather.Goals.{else-distance-low, then-distance-low+else-v-lt2050, then-distance-low+then-v-lt2050}
 
 pub loop-i-init : goal.loop-i-init
 loop-i-init c = (omega arith, omega arith, refl, gather_begin _ _ _ _)
