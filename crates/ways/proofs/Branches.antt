@@ -5,7 +5,7 @@ use native.Mathlib.Omega.{arith}
 use mathlib.Core.Bool.{Bool, true, false, cond, ◌&&◌, not}
 use mathlib.Core.List.{List}
 use lib.ListN.{get_or}
-use lib.Dec.{ltb, eqb}
+use lib.Dec.{eqb}
 use borrow.Author.Tests.{lt-ltb, le-ltb, eq-eqb, ne_eqb}
 use Rattle.trace.specs.TraceFile.{kind_at, cost_at}
 use Rattle.ways.specs.Ways.{closed, plus, minus, charge_at, ahead_of, behind_of, follows, precedes, kept_by, held_by, unheld, now_held}

@@ -1,6 +1,6 @@
 -- Each turn of the loops lays the numbers of one point and of its request. Assumes nothing.
 use mathlib.Core.Path.{◌≡◌, refl, ◌∙◌, ap}
-use Prim.Native.Nat.{ℕ, zero, suc, ◌+◌, ◌*◌, ◌-◌, ◌≤◌, ◌<◌}
+use Prim.Native.Nat.{ℕ, zero, suc, ◌+◌, ◌-◌, ◌≤◌, ◌<◌}
 use native.Mathlib.Omega.{arith}
 use native.Mathlib.Numerals.{add-one}
 use mathlib.Core.Bool.{Bool, true, false, cond}
@@ -9,23 +9,10 @@ use lib.ListN.{length, get_or, set, drop, length-set}
 use lib.Dec.{ltb}
 use borrow.Author.Tests.{lt-ltb, le-ltb}
 use Rattle.trace.specs.TraceFile.{requests_at}
-use Rattle.ways.specs.Ways.{
-  closed,
-  point_source,
-  request_source,
-  source_by,
-  charge_at,
-  kept_by,
-  held_by,
-  crowd_step,
-  crowd_by,
-  point_length,
-  request_length,
-  length_by,
-}
-use Rattle.ways.specs.Promise.{rows, listed, laid_of, Sourced, Charged, Measured}
+use Rattle.ways.specs.Ways.{closed, point_source, request_source, source_by, charge_at, kept_by, crowd_step, crowd_by, point_length, request_length, length_by}
+use Rattle.ways.specs.Promise.{listed, Sourced, Charged, Measured}
 use Rattle.ways.specs.Parts.{put_at, put_both, crowd_before, idle_way, Turned}
-use Rattle.ways.proofs.Rows.{length-listed, listed_step, Says, Laying, laying_start, laying_turn, laying_end, both_laid, length_both}
+use Rattle.ways.proofs.Rows.{listed_step, Says, Laying, laying_start, laying_turn, laying_end, both_laid, length_both}
 
 -- ---- sources
 

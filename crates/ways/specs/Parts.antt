@@ -1,6 +1,6 @@
 -- What the crate's own functions promise one another while lists are laid. The promises of the public calls cite none of it.
 -- Assumes nothing.
-use Rattle.std.specs.Prelude.{◌≡◌, ℕ, zero, suc, ◌+◌, ◌*◌, ◌-◌, Bool, cond, ◌&&◌, not, List, get_or, set, ltb}
+use Rattle.std.specs.Prelude.{◌≡◌, ℕ, zero, suc, ◌+◌, ◌*◌, ◌-◌, cond, ◌&&◌, not, List, get_or, set, ltb}
 use Rattle.ways.specs.Ways.{
   closed,
   plus,

@@ -2,7 +2,7 @@
 -- node n + 1 + t is request t. Requests are counted from 0. Way `kind` (0, 1 or 2) into node u stands at place 3 u + kind.
 -- Lengths are numbers of four bytes, so sums are taken modulo 2^32; of a sound trace no sum reaches it. Assumes nothing.
 use Rattle.std.specs.Prelude.{ℕ, zero, suc, ◌+◌, ◌*◌, ◌-◌, ◌/◌, ◌%◌, Bool, cond, ◌&&◌, not, List, get_or, ltb, eqb}
-use Rattle.trace.specs.TraceFile.{requests_at, fill_at, kind_at, cost_at}
+use Rattle.trace.specs.TraceFile.{kind_at, cost_at}
 
 -- a length that says closed
 abbrev pub closed : ℕ
