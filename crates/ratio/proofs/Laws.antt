@@ -1,15 +1,13 @@
 -- Laws of the gap ratio: its promise leaves one answer, and no cost within the limit is rounded on its way to a float.
-use mathlib.Core.Path.{◌≡◌, refl}
-use Prim.Native.Nat.{ℕ, ◌≤◌, ◌<◌, ◌^◌}
+use mathlib.Core.Path.{◌≡◌}
+use Prim.Native.Nat.{ℕ, ◌≤◌, ◌^◌}
 use mathlib.Core.Bool.{false}
 use native.Mathlib.Omega.{arith}
-use lib.Dec.{T, le→leb}
-use lib.IntN.{pos}
+use lib.Dec.{le→leb}
 use lib.Ieee.{binary64, in_float, of_int, to_unsigned}
 use lib.Ieee.Exact.{HasValue}
 use lib.Ieee.Back.{round_whole, unsigned_back}
 use Rattle.model.specs.Numbers.{max_plan_cost}
-use Rattle.model.specs.Refusals.{Answer, fine, refused}
 use Rattle.ratio.specs.Ratio.{said, as_float, ratio_of}
 use Rattle.ratio.specs.declared.Rated.{Rated}
 use Rattle.ratio.specs.declared.Rated.TheVariants.{Gave, Refused}

@@ -1,5 +1,5 @@
 -- The gap ratio of a least cost and a measured one. Assumes nothing.
-use Rattle.std.specs.Prelude.{ℕ, Bool, true, false, cond, ◌||◌, eqb, ltb, pos, Float}
+use Rattle.std.specs.Prelude.{ℕ, cond, ◌||◌, eqb, ltb, pos, Float}
 use Rattle.std.specs.Float.{binary64}
 use Rattle.std.specs.Float.Ieee.{of_int, div}
 use Rattle.model.specs.Numbers.{max_plan_cost}

@@ -22,6 +22,7 @@ pub enum Rated {
 }
 
 // The measured cost by the least.
+#[tactic(auto, unfolding(crate::specs::Ratio::ratio_tried))]
 pub fn ratio(least: u64, measured: u64) -> Rated
     ensures { said result ≡ ratio_of least measured }
 {
