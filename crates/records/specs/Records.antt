@@ -1,5 +1,5 @@
 -- The pieces of a trace file, as document 01 lays them out. Assumes nothing.
-use Rattle.std.specs.Prelude.{ℕ, ◌+◌, cond, List, [], ◌∷◌, ◌++◌, length, ltb}
+use Rattle.std.specs.Prelude.{ℕ, ◌+◌, cond, List, ◌∷◌, ◌++◌, length, ltb}
 use Rattle.std.proofs.Math.Seq.{paste}
 use Rattle.fields.specs.Bytes.{bytes_of}
 
