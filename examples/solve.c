@@ -1,10 +1,10 @@
 /* Solves a trace file, judges the plan and audits it.
  *
- *     rt staticlib capi
+ *     scripts/libcapi
  *     cc -std=c11 -O2 -I include examples/solve.c target/staticlib/libcapi.a -o target/solve
  *     target/solve TRACE [PLAN]          PLAN: where to write the plan file
  *
- * The library is for x86-64; on Arm take a cross compiler (x86_64-linux-gnu-gcc). */
+ * The library is for x86-64. */
 #include <stdio.h>
 
 #include "glazepouch.h"

@@ -1,7 +1,8 @@
 /* Glazepouch: the least cost of a request trace, and plans that prove it.
  *
  * All functions work on bytes that the caller lends; nothing is kept between calls, nothing is
- * allocated, and there is no lock to take. Link libcapi.a (`rt staticlib capi`, x86-64 Linux).
+ * allocated, and there is no lock to take. Link target/staticlib/libcapi.a (`scripts/libcapi`
+ * builds it, x86-64 Linux).
  *
  * A trace file (numbers least byte first), 12 + 8n bytes:
  *     "CTR", version 1 in two bytes, slot count w in one, n in two, fill price F in four,

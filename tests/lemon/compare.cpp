@@ -2,11 +2,11 @@
 // traces of up to 1,024 requests. It is not part of the gate. How to build and run it:
 //
 //     apt-get update && apt-get install liblemon-dev
-//     rt staticlib capi
+//     scripts/libcapi
 //     g++ -std=c++17 -O2 -I include tests/lemon/compare.cpp target/staticlib/libcapi.a -o target/lemon
 //     target/lemon [SEED COUNT]           default: seed 1, 200 traces
 //
-// The library is for x86-64; on Arm take x86_64-linux-gnu-g++ (NetworkSimplex needs headers alone).
+// The library is for x86-64 (of LEMON, NetworkSimplex needs headers alone).
 #include <cstdio>
 #include <cstdlib>
 #include <map>

@@ -1,5 +1,5 @@
-// The C interface of include/glazepouch.h: each function makes one proved call, answers 0 when the work is done, else the refusal's
-// number + 256 * its place, and on a refusal leaves what is lent as it was.
+// The C interface of include/glazepouch.h, whose exports (crate capi_c) call these: each function makes one proved call, answers 0 when
+// the work is done, else the refusal's number + 256 * its place, and on a refusal leaves what is lent as it was.
 #![tactic(auto)]
 
 ghost use Rattle.std.specs.Prelude.{◌≡◌, ◌+◌, ◌*◌, length};
@@ -28,8 +28,7 @@ fn code(r: Refusal) -> u64
 }
 
 // Total cost, read misses, fills and write hits of a plan. Refusals 1 to 17.
-#[unsafe(no_mangle)]
-pub extern "C" fn gp_audit(trace: &[u8], plan: &[u8], totals: &mut [u64; 4]) -> u64
+pub fn gp_audit(trace: &[u8], plan: &[u8], totals: &mut [u64; 4]) -> u64
     ensures value { result ≡ code_of (audit_of trace.now plan.now) }
     ensures totals_after { totals.new ≡ totals_or (audit_of trace.now plan.now) totals.old }
 {
@@ -43,8 +42,7 @@ pub extern "C" fn gp_audit(trace: &[u8], plan: &[u8], totals: &mut [u64; 4]) -> 
 }
 
 // The cost at which a plan is accepted. Refusals 1 to 18.
-#[unsafe(no_mangle)]
-pub extern "C" fn gp_judge(trace: &[u8], plan: &[u8], cost: &mut u64) -> u64
+pub fn gp_judge(trace: &[u8], plan: &[u8], cost: &mut u64) -> u64
     ensures value { result ≡ code_of (judge_of trace.now plan.now) }
     ensures cost_after { cost.new ≡ value_or (judge_of trace.now plan.now) cost.old }
 {
@@ -58,8 +56,7 @@ pub extern "C" fn gp_judge(trace: &[u8], plan: &[u8], cost: &mut u64) -> u64
 }
 
 // The floor of a list of rents. Refusals 1 to 8, 11, 17.
-#[unsafe(no_mangle)]
-pub extern "C" fn gp_floor(trace: &[u8], rents: &[u32], floor: &mut i64) -> u64
+pub fn gp_floor(trace: &[u8], rents: &[u32], floor: &mut i64) -> u64
     ensures value { result ≡ code_of (floor_of trace.now rents.now) }
     ensures floor_after { floor.new ≡ value_or (floor_of trace.now rents.now) floor.old }
 {
@@ -73,14 +70,7 @@ pub extern "C" fn gp_floor(trace: &[u8], rents: &[u32], floor: &mut i64) -> u64
 }
 
 // The plan file of flags and rents, from the buffer's start; the rest of the buffer is kept. Refusals 1 to 8, 11, 13, 14, 15, 17, 19.
-#[unsafe(no_mangle)]
-pub extern "C" fn gp_write(
-    trace: &[u8],
-    flags: &[u8],
-    rents: &[u32],
-    buffer: &mut [u8],
-    cost: &mut u64,
-) -> u64
+pub fn gp_write(trace: &[u8], flags: &[u8], rents: &[u32], buffer: &mut [u8], cost: &mut u64) -> u64
     ensures value { result ≡ code_of (write_of trace.now flags.now rents.now (length buffer.old)) }
     ensures buffer_after { buffer.new ≡ buffer_of trace.now flags.now rents.now buffer.old }
     ensures cost_after { cost.new ≡ value_or (write_of trace.now flags.now rents.now (length buffer.old)) cost.old }
@@ -95,8 +85,7 @@ pub extern "C" fn gp_write(
 }
 
 // A least-cost plan from the buffer's start, and its cost. Refusals 1 to 8, then 19.
-#[unsafe(no_mangle)]
-pub extern "C" fn gp_solve(trace: &[u8], buffer: &mut [u8], cost: &mut u64) -> u64
+pub fn gp_solve(trace: &[u8], buffer: &mut [u8], cost: &mut u64) -> u64
     ensures { Solves trace.now buffer.old cost.old result buffer.new cost.new }
 {
     match solver::solve(trace, buffer) {
@@ -109,8 +98,7 @@ pub extern "C" fn gp_solve(trace: &[u8], buffer: &mut [u8], cost: &mut u64) -> u
 }
 
 // Whether the flags and the rents can be taken from a plan's bytes. Refusals 1 to 12.
-#[unsafe(no_mangle)]
-pub extern "C" fn gp_section(trace: &[u8], plan: &[u8]) -> u64
+pub fn gp_section(trace: &[u8], plan: &[u8]) -> u64
     ensures { result ≡ code_of_tried (section_tried trace.now plan.now) }
 {
     match plan::refusal(trace, plan) {
@@ -120,8 +108,7 @@ pub extern "C" fn gp_section(trace: &[u8], plan: &[u8]) -> u64
 }
 
 // The measured cost by the least: the kind is 0 for no cost, 1 for no ratio, 2 for a ratio. Refusals 20, 21.
-#[unsafe(no_mangle)]
-pub extern "C" fn gp_ratio(least: u64, measured: u64, kind: &mut u8, ratio: &mut f64) -> u64
+pub fn gp_ratio(least: u64, measured: u64, kind: &mut u8, ratio: &mut f64) -> u64
     ensures value { result ≡ code_of (ratio_of least measured) }
     ensures kind_after { kind.new ≡ kind_or (ratio_of least measured) kind.old }
     ensures ratio_after { ratio.new ≡ ratio_or (ratio_of least measured) ratio.old }
