@@ -1,6 +1,6 @@
 -- Writing a plan from a trace, flags and rents into a lent buffer. Assumes nothing.
-use Rattle.std.specs.Prelude.{ℕ, ◌+◌, List, ◌++◌, length, drop, ltb}
-use Rattle.model.specs.Model.{Trace, cost}
+use Rattle.std.specs.Prelude.{ℕ, List, ◌++◌, length, drop, ltb}
+use Rattle.model.specs.Model.{cost}
 use Rattle.model.specs.Refusals.{Tried, passes, refusal, row, next, Answer, fine, refused, answer}
 use Rattle.trace.specs.TraceFile.{requests_at, trace_tried, trace_in}
 use Rattle.plan.specs.PlanFile.{shape_of, length_of, rents_tried, plan_bytes}

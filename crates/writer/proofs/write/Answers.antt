@@ -1,0 +1,13 @@
+use Rattle.writer.proofs.Answered.{room-there, filled}
+use Rattle.writer.proofs.write.Goals as goal
+
+pub plan-requires : goal.plan-requires
+plan-requires c =
+    let a = c.args in
+    room-there a.trace.now a.flags.now a.rents.now a.buffer.now _ (rw c.in-Cost.is at c.tried.ensures)
+
+pub returns-in-Cost : goal.returns-in-Cost
+returns-in-Cost c =
+    let a = c.args in
+    let e = rw c.in-Cost.is at c.tried.ensures in
+    record { answer = e; held = filled a.trace.now a.flags.now a.rents.now a.buffer.now _ e _ c.plan.ensures }
