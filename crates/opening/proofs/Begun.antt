@@ -18,7 +18,7 @@ use Rattle.ways.specs.Promise.{Sourced, Charged}
 use Rattle.ways.proofs.Laws.{sourced_unique, charged_unique}
 use Rattle.worths.specs.Worths.{Started}
 use Rattle.worths.proofs.Unique.{started_unique}
-use Rattle.opening.specs.Opened.{nexts_of, Lists, Opened}
+use Rattle.opening.specs.Opened.{nexts_of, Opened}
 
 -- one way through the rows is not the other
 parted : {t : Tried} {number place : ℕ} → t ≡ passes → t ≡ refusal number place → ⊥

@@ -27,5 +27,5 @@ pub fn begin(
     sources(&next, &prev, h.requests, from);
     charges(trace, charge);
     start(trace, &next, worth);
-    checked
+    Checked::Sound(h)
 }
