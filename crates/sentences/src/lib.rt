@@ -13,7 +13,7 @@ use model::Refusal;
 pub const ROOM: usize = 256;
 
 // How far a page is laid and a text's signs are read.
-#[derive(Drop)]
+#[derive(Clone, Copy)]
 struct Pen {
     // How far the page is filled.
     at: usize,
