@@ -8,9 +8,9 @@ use lib.Dec.{eqb}
 use lib.ListN.{length}
 use lib.IntN.{pos, sub_ℕ}
 use borrow.Author.Tests.{eq-eqb, ne_eqb, eqb-true, not-false}
-use Rattle.model.specs.Model.{leasts, floor}
+use Rattle.model.specs.Model.{floor}
 use Rattle.model.specs.Plans.{rents_in}
-use Rattle.model.specs.Refusals.{passes, refusal, next, fine, refused, answer}
+use Rattle.model.specs.Refusals.{passes, refusal, next, fine, refused}
 use Rattle.model.specs.declared.Refusal.{Refusal}
 use Rattle.model.proofs.Duality.{weak_duality, sub_eq, eq_sub}
 use Rattle.model.proofs.Sanity.{nothing, nothing_allowed}

@@ -1,6 +1,6 @@
 -- The difference of two naturals as a machine computes it at 64 bits. Assumes nothing.
 use mathlib.Core.Path.{◌≡◌, refl, ◌∙◌, ap}
-use Prim.Native.Nat.{ℕ, zero, suc, ◌-◌, ◌<◌}
+use Prim.Native.Nat.{ℕ, zero, suc, ◌<◌}
 use native.Mathlib.Omega.{arith}
 use lib.IntN.{pos, sub_ℕ, ◌-ℤ◌}
 use lib.Dec.{ltb}
