@@ -1,13 +1,13 @@
 -- One slot more, from the ways that are listed to what the walk leaves. Assumes nothing.
 use mathlib.Core.Path.{◌≡◌, sym, ◌∙◌, ap}
-use mathlib.Core.Logic.{◌⊎◌, inl, inr, ⊎_elim}
+use mathlib.Core.Logic.{inl, inr, ⊎_elim}
 use Prim.Native.Nat.{ℕ, suc, ◌+◌, ◌*◌, ◌-◌, ◌≤◌, ◌<◌}
 use native.Mathlib.Omega.{arith}
 use mathlib.Core.List.{List}
-use lib.ListN.{length, get_or}
+use lib.ListN.{get_or}
 use Rattle.model.specs.Model.{Trace}
 use Rattle.model.specs.Plans.{Flags, flags_in}
-use Rattle.trace.specs.TraceFile.{requests_at, trace_in}
+use Rattle.trace.specs.TraceFile.{trace_in}
 use Rattle.trace.proofs.Sound.{reqs_length}
 use Rattle.network.specs.Sound.{count}
 use Rattle.network.proofs.Limits.{bounded_limit}
@@ -16,7 +16,7 @@ use Rattle.ways.proofs.Laws.{length_at, source_inside}
 use Rattle.worths.specs.Worths.{Raised}
 use Rattle.steps.specs.Lists.{points_in, requests_in}
 use Rattle.steps.specs.Ways.{Way, way_into}
-use Rattle.steps.specs.Search.{Reached, Hop, Found, Finds, Graph, ways_by}
+use Rattle.steps.specs.Search.{Hop, Found, Finds, Graph, ways_by}
 use Rattle.steps.specs.Slots.{Grown, Trail, Walked, Laid}
 use Rattle.steps.proofs.WaysLaws.{way_from, way_idle, at_point, found_searched, found_hop}
 use Rattle.steps.proofs.WaysLists.{ways_listed}

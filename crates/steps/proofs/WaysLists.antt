@@ -1,26 +1,26 @@
 -- The ways that `ways` lists for the flags and worths of a sound trace are the network's. Assumes nothing.
 use mathlib.Core.Path.{◌≡◌, refl, sym, ◌∙◌, ap}
-use mathlib.Core.Bool.{Bool, true, false, cond, ◌&&◌, not, false≢true}
+use mathlib.Core.Bool.{Bool, true, false, cond, ◌&&◌, not}
 use mathlib.Core.List.{List}
 use Prim.Native.Nat.{ℕ, zero, suc, ◌+◌, ◌*◌, ◌-◌, ◌/◌, ◌%◌, ◌≤◌, ◌<◌}
 use native.Mathlib.Omega.{arith}
 use native.Mathlib.Decide.{dec_lt}
 use native.Mathlib.Nat.{mod-eq_of_lt, add-mod_right, mul-add-div}
 use lib.ListN.{get_or}
-use lib.Dec.{ltb, eqb}
-use borrow.Author.Tests.{ltb-true, ltb-false, lt-ltb, le-ltb, not-true}
+use lib.Dec.{ltb}
+use borrow.Author.Tests.{ltb-true, ltb-false, lt-ltb, le-ltb}
 use Rattle.model.specs.Model.{Request, Trace}
 use Rattle.model.specs.Plans.{Flags, flags_in, request_at}
 use Rattle.model.specs.Links.{next_of, prev_of}
 use Rattle.model.proofs.Links.{next_is, prev_is, next_of_prev}
 use Rattle.model.proofs.Sums.{split}
-use Rattle.trace.specs.TraceFile.{requests_at, fill_at, kind_at, cost_at, trace_in}
+use Rattle.trace.specs.TraceFile.{requests_at, trace_in}
 use Rattle.trace.proofs.Sound.{reqs_length, req_at}
-use Rattle.network.specs.Sound.{count, node, read_cost, write_cost, missed, struck, reads, after, before, fills_at, drops_at, crowd, Sound}
+use Rattle.network.specs.Sound.{count, node, missed, struck, reads, after, before, fills_at, drops_at, crowd, Sound}
 use Rattle.network.proofs.Bound.{cost_within}
 use Rattle.network.proofs.Held.{flag_past, crowd_step_lem, crowd_first}
 use Rattle.network.proofs.Limits.{bounded_limit}
-use Rattle.ways.specs.Ways.{closed, plus, minus, charge_at, writes, ahead_of, behind_of, follows, precedes, kept_by, held_by, crowd_by, unheld, now_held, point_source, request_source, point_length, request_length, source_by, length_by}
+use Rattle.ways.specs.Ways.{closed, plus, minus, writes, ahead_of, behind_of, follows, precedes, kept_by, held_by, crowd_by, unheld, now_held, point_source, request_source, point_length, request_length, source_by, length_by}
 use Rattle.steps.specs.Lists.{Lists, Fits, points_in, requests_in}
 use Rattle.steps.specs.Ways.{Way, no_way, point_way, request_way, way_into}
 use Rattle.steps.proofs.WaysLaws.{way_from, way_unfill, way_drop, way_unidle, way_full, way_end, way_idle, way_first, way_undrop, way_fill, way_barred, way_hold, way_unheld, way_unhold, way_kept, at_point, at_request}
