@@ -4,7 +4,7 @@ use Prim.Native.Nat.{ℕ}
 use mathlib.Core.List.{List, [], ◌∷◌}
 use Rattle.fields.specs.Bytes.{num_at, bytes_of}
 use Rattle.model.specs.Model.{Least, cost, leasts, rents_all, floor}
-use Rattle.model.specs.Refusals.{Answer, fine}
+use Rattle.model.specs.Refusals.{fine}
 use Rattle.trace.specs.TraceFile.{trace_tried, trace_in}
 use Rattle.plan.specs.PlanFile.{plan_tried, section_tried}
 use Rattle.replay.specs.Replay.{flags_tried}

@@ -1,13 +1,12 @@
 -- What it tells that the judge's rows pass: the parts of rows 1 to 17, and row 18 as an equation.
 use mathlib.Core.Path.{◌≡◌, refl, ap}
 use Prim.Native.Nat.{ℕ}
-use mathlib.Core.Bool.{Bool, true, false, not, false≢true}
+use mathlib.Core.Bool.{true, not, false≢true}
 use mathlib.Core.List.{List}
-use native.Mathlib.Omega.{arith}
 use borrow.Author.Tests.{eqb-true, eq-eqb, not-false}
 use lib.Dec.{eqb}
 use lib.IntN.{ℤ, pos, negsuc}
-use Rattle.model.specs.Refusals.{Tried, passes, refusal, row, next, Answer, fine, refused, answer}
+use Rattle.model.specs.Refusals.{passes, row, next}
 use Rattle.model.proofs.Refusals.{row_passes, next_passes}
 use Rattle.trace.specs.TraceFile.{requests_at, trace_tried, trace_in}
 use Rattle.plan.specs.PlanFile.{stated_at, plan_tried, section_tried, rents_tried}

@@ -1,22 +1,20 @@
 -- What the judge knows of the two sides of the floor that it is handed.
-use mathlib.Core.Path.{◌≡◌, refl, ap, sym, ◌∙◌}
-use Prim.Native.Nat.{ℕ, ◌*◌, ◌≤◌}
+use mathlib.Core.Path.{◌≡◌, sym, ◌∙◌}
+use Prim.Native.Nat.{ℕ, ◌≤◌}
 use mathlib.Core.Bool.{not}
 use mathlib.Core.List.{List}
-use native.Mathlib.Omega.{arith}
 use lib.ListN.{length, take, replicate, length-replicate}
 use lib.IntN.{sub_ℕ}
-use Rattle.model.specs.Refusals.{Tried, passes, row, Answer, fine, refused, answer}
+use Rattle.model.specs.Refusals.{passes, row, Answer, fine, answer}
 use Rattle.model.specs.Numbers.{max_requests}
 use Rattle.trace.specs.TraceFile.{requests_at}
 use Rattle.plan.specs.PlanFile.{rents_of}
 use Rattle.plan.specs.Reading.{rents_into}
 use Rattle.audit.specs.Audit.{plan_rents, plan_cost, audit_tried}
-use Rattle.floor.specs.Floor.{floor_tried}
 use Rattle.floor.specs.Sides.{pair_in, sides_of}
 use Rattle.floor.specs.declared.Pair.{Pair}
 use Rattle.judge.specs.Judge.{isℤ, judge_of}
-use Rattle.judge.proofs.Passes.{SoundPair, audit_sound}
+use Rattle.judge.proofs.Passes.{SoundPair}
 use Rattle.judge.proofs.Weighing.{few_requests, rents_read, floor_passes, judged_by_sides}
 
 module _ (trace plan : List ℕ) (sound : SoundPair trace plan) where

@@ -1,5 +1,5 @@
 -- Document 01's table, computed from the definitions.
-use mathlib.Core.Path.{◌≡◌, refl}
+use mathlib.Core.Path.{refl}
 use Rattle.fields.specs.Bytes.{num_at, bytes_of}
 use Rattle.model.specs.Model.{cost, leasts, rents_all, floor}
 use Rattle.trace.specs.TraceFile.{trace_tried}

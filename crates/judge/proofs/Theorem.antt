@@ -4,9 +4,9 @@ use mathlib.Core.List.{List}
 use Prim.Native.Nat.{ℕ, ◌≤◌}
 use lib.IntN.{pos}
 use lib.Signed.{◌≤ℤ◌}
-use Rattle.model.specs.Model.{Trace, Contents, Rents, Allowed, Least, cost, floor}
+use Rattle.model.specs.Model.{Contents, Rents, Allowed, Least, cost, floor}
 use Rattle.model.specs.Plans.{flags_in, rents_in}
-use Rattle.model.specs.Refusals.{Tried, passes, Answer, fine}
+use Rattle.model.specs.Refusals.{passes, fine}
 use Rattle.model.proofs.Duality.{floor_below_cost}
 use Rattle.model.proofs.Plans.{flags_name_allowed}
 use Rattle.model.proofs.Unique.{floor_gives_least}

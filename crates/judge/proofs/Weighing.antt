@@ -1,6 +1,6 @@
 -- From a sound plan to row 18: the rents that are read are the plan's, the floor is refused nothing, and its two sides decide.
-use mathlib.Core.Path.{◌≡◌, refl, ap, sym, ◌∙◌}
-use Prim.Native.Nat.{ℕ, suc, ◌+◌, ◌*◌, ◌/◌, ◌≤◌}
+use mathlib.Core.Path.{◌≡◌, refl, ap}
+use Prim.Native.Nat.{ℕ, ◌+◌, ◌*◌, ◌/◌, ◌≤◌}
 use mathlib.Core.Bool.{not}
 use mathlib.Core.List.{List, [], ◌∷◌}
 use native.Mathlib.Omega.{arith}
@@ -12,7 +12,7 @@ use Rattle.model.specs.Model.{leasts, rents_all, floor}
 use Rattle.model.specs.Numbers.{max_requests}
 use Rattle.model.specs.Plans.{rents_in}
 use Rattle.model.specs.Links.{listed}
-use Rattle.model.specs.Refusals.{Tried, passes, row, next, Answer, answer}
+use Rattle.model.specs.Refusals.{passes, row, answer}
 use Rattle.model.proofs.Links.{length-listed}
 use Rattle.trace.specs.TraceFile.{slots_at, requests_at, trace_in}
 use Rattle.trace.proofs.Sound.{sound_trace}
@@ -21,7 +21,7 @@ use Rattle.plan.specs.Reading.{rents_into}
 use Rattle.audit.specs.Audit.{plan_rents, plan_cost, audit_tried}
 use Rattle.floor.specs.Floor.{floor_tried}
 use Rattle.judge.specs.Judge.{isℤ, judge_tried, judge_of}
-use Rattle.judge.proofs.Passes.{SoundPair, audit_sound}
+use Rattle.judge.proofs.Passes.{SoundPair}
 
 -- what was put in front stands in front
 take_front : (xs l : List ℕ) → length xs ≤ length l → take (length xs) (put_front xs l) ≡ xs

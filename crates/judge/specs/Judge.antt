@@ -1,5 +1,5 @@
 -- The judge: the audit, then 18. Assumes nothing.
-use Rattle.std.specs.Prelude.{ℕ, Bool, true, false, not, List, eqb, ℤ, pos, negsuc}
+use Rattle.std.specs.Prelude.{ℕ, Bool, false, not, List, eqb, ℤ, pos, negsuc}
 use Rattle.model.specs.Model.{floor}
 use Rattle.model.specs.Plans.{rents_in}
 use Rattle.model.specs.Refusals.{Tried, passes, row, next, Answer, fine, refused, answer}

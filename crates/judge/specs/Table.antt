@@ -1,7 +1,7 @@
 -- Document 01's table: each row's trace, flags and rents, and what must be answered. The bytes are those of the file formats. Assumes nothing.
-use Rattle.std.specs.Prelude.{◌≡◌, ℕ, Bool, true, false, List, [], ◌∷◌, ℤ, pos}
-use Rattle.model.specs.Model.{Rules, Request, Trace, cost}
-use Rattle.model.specs.Refusals.{Answer, fine, refused}
+use Rattle.std.specs.Prelude.{◌≡◌, ℕ, true, false, List, [], ◌∷◌, pos}
+use Rattle.model.specs.Model.{Request, Trace, cost}
+use Rattle.model.specs.Refusals.{fine, refused}
 use Rattle.trace.specs.TraceFile.{trace_bytes}
 use Rattle.plan.specs.PlanFile.{plan_bytes}
 use Rattle.replay.specs.Replay.{named}
