@@ -1,0 +1,6 @@
+use mathlib.Core.Path.{refl}
+use Rattle.sentences.proofs.Fitting.{laid_whole}
+use Rattle.schedule.proofs.heading.Goals as goal
+
+pub returns : goal.returns
+returns c = laid_whole refl c.lay.ensures
