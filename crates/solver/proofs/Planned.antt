@@ -1,18 +1,17 @@
 -- From slots laid to an accepted plan in the buffer. Assumes nothing.
 use mathlib.Core.Path.{◌≡◌, refl, sym, ◌∙◌}
-use Prim.Native.Nat.{ℕ, zero, suc, ◌+◌, ◌≤◌, ◌<◌}
+use Prim.Native.Nat.{ℕ, zero, suc, ◌≤◌, ◌<◌}
 use native.Mathlib.Omega.{arith}
 use native.Mathlib.Decide.{dec_lt}
 use mathlib.Core.Bool.{false}
 use mathlib.Core.List.{List}
-use lib.ListN.{length, get_or, take, replicate, length-replicate, get_or-replicate, get_or-eq_default}
+use lib.ListN.{length, get_or, take, get_or-eq_default}
 use lib.Seq.{get_or-take, length-take-le}
-use Rattle.model.specs.Model.{Trace}
-use Rattle.model.specs.Numbers.{max_rent, max_requests}
+use Rattle.model.specs.Numbers.{max_rent}
 use Rattle.model.specs.Plans.{flags_in, rents_in}
 use Rattle.model.specs.Refusals.{passes, fine, refused}
-use Rattle.trace.specs.TraceFile.{requests_at, slots_at, trace_in}
-use Rattle.trace.proofs.Sound.{sound_trace, trace_within, reqs_length}
+use Rattle.trace.specs.TraceFile.{slots_at, trace_in}
+use Rattle.trace.proofs.Sound.{reqs_length}
 use Rattle.plan.proofs.Sound.{sound_rents}
 use Rattle.plan.proofs.Written.{plan_length}
 use Rattle.replay.proofs.Laws.{sound_flags_pass}

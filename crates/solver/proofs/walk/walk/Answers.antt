@@ -1,0 +1,13 @@
+use Rattle.steps.proofs.Hops.{trail_start, trail_step, trail_end}
+use Rattle.solver.proofs.walk.walk.Goals as goal
+
+pub loop-v-init : goal.loop-v-init
+loop-v-init c = (c.requires, trail_start c.requires)
+
+pub loop-v-preserved : goal.loop-v-preserved
+loop-v-preserved c =
+    let i = c.loop-v.invariant in
+    (i.0, rw c.hopped.ensures (trail_step i.0 i.1 c.loop-v-test.true))
+
+pub returns : goal.returns
+returns c = let i = c.loop-v.invariant in trail_end i.0 i.1 c.loop-v-test.false
