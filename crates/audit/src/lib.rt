@@ -10,7 +10,7 @@ use replay::{Replayed, Totals};
 mod rents;
 
 // What an audit answers.
-#[derive(Drop)]
+#[derive(Clone, Copy)]
 pub enum Audited {
     Sound(Totals),
     Refused(Refusal),

@@ -8,14 +8,14 @@ ghost use Rattle.decimal.specs.Decimal.{decimal, digit_in, digits_from};
 ghost use Rattle.decimal.specs.Said.{Spelled, said, Inside, Reads};
 
 // A number read, and the place behind it.
-#[derive(Drop)]
+#[derive(Clone, Copy)]
 pub struct Number {
     pub value: u64,
     pub next: usize,
 }
 
 // What stands at a place of a text.
-#[derive(Drop)]
+#[derive(Clone, Copy)]
 pub enum Numeral {
     Is(Number),
     Not,

@@ -8,7 +8,7 @@ ghost use Rattle.disk.specs.Load.{Holds};
 
 // What loading comes to: how many bytes stand at the buffer's start, or a failure that has been
 // said.
-#[derive(Drop)]
+#[derive(Clone, Copy)]
 pub enum Loaded {
     Bytes(usize),
     Failed,

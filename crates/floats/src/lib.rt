@@ -7,7 +7,7 @@ ghost use Rattle.std.specs.Prelude.{◌≡◌};
 ghost use Rattle.floats.specs.Cut.{cut_of};
 
 // A float's whole part and its decimals: sixteen of them, cut off.
-#[derive(Drop)]
+#[derive(Clone, Copy)]
 pub struct Decimals {
     pub whole: u64,
     pub parts: u64,

@@ -11,21 +11,21 @@ use trace::Checked;
 mod pass;
 
 // The two sides of the floor: the least prices added up, and w times the sum of all rents.
-#[derive(Drop)]
+#[derive(Clone, Copy)]
 pub struct Pair {
     pub leasts: u64,
     pub taken: u64,
 }
 
 // What the call for the two sides answers.
-#[derive(Drop)]
+#[derive(Clone, Copy)]
 pub enum Sided {
     Both(Pair),
     Refused(Refusal),
 }
 
 // What the floor call answers.
-#[derive(Drop)]
+#[derive(Clone, Copy)]
 pub enum Floored {
     Floor(i64),
     Refused(Refusal),

@@ -8,7 +8,7 @@ ghost use Rattle.std.specs.Prelude.{◌≡◌, ◌<◌, min, length, take};
 ghost use Rattle.frontier.specs.Frontier.{desk, offered, beyond, nearest, those, written};
 
 // The nodes of a search.
-#[derive(Drop)]
+#[derive(Clone, Copy)]
 pub struct Nodes {
     pub count: usize,
 }
@@ -21,21 +21,21 @@ impl Nodes {
 }
 
 // How many nodes stand on the stack and in the list.
-#[derive(Drop)]
+#[derive(Clone, Copy)]
 pub struct Ends {
     pub top: usize,
     pub waiting: usize,
 }
 
 // What sifting leaves: how many still wait, and the least of their distances.
-#[derive(Drop)]
+#[derive(Clone, Copy)]
 pub struct Sifted {
     pub waiting: usize,
     pub low: u64,
 }
 
 // What refilling leaves: how many stand on the stack, how many wait, and the distance of those on the stack.
-#[derive(Drop)]
+#[derive(Clone, Copy)]
 pub struct Refilled {
     pub top: usize,
     pub waiting: usize,

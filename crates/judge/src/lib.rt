@@ -12,7 +12,7 @@ use floor::Sided;
 use model::{Refusal, Requests};
 
 // The judge's verdict: the accepted cost, or the refusal.
-#[derive(Drop)]
+#[derive(Clone, Copy)]
 pub enum Judged {
     Accepted(u64),
     Refused(Refusal),

@@ -20,7 +20,7 @@ pub fn fill(
     ensures { Filled trace.now next.old prev.old result next.new prev.new }
 {
     let checked = trace::check(trace);
-    let Checked::Sound(h) = &checked else {
+    let Checked::Sound(h) = checked else {
         return checked;
     };
     let n = h.requests;

@@ -27,5 +27,5 @@ pub fn begin(
     sources(&next, &prev, h.requests, from);
     charges(trace, charge);
     start(trace, &next, worth);
-    Checked::Sound(h)
+    checked
 }

@@ -7,7 +7,7 @@ ghost use Rattle.ratio.specs.Ratio.{said, ratio_of};
 use model::{PlanCost, Refusal};
 
 // How far a measured cost is above the least: both are 0, only the least is 0, or their quotient.
-#[derive(Drop)]
+#[derive(Clone, Copy)]
 pub enum Gap {
     NoCost,
     NoRatio,
@@ -15,7 +15,7 @@ pub enum Gap {
 }
 
 // What the ratio call answers.
-#[derive(Drop)]
+#[derive(Clone, Copy)]
 pub enum Rated {
     Gave(Gap),
     Refused(Refusal),

@@ -14,7 +14,7 @@ mod rows;
 mod sums;
 
 // The total cost, and how many read misses, fills and write hits are in it.
-#[derive(Drop)]
+#[derive(Clone, Copy)]
 pub struct Totals {
     pub total: u64,
     pub misses: u64,
@@ -24,7 +24,7 @@ pub struct Totals {
 
 // The rows of the table of charges: a read of an item held, a read miss that fills and one that passes by the cache, a write of an
 // item held, and of one that is not.
-#[derive(Drop)]
+#[derive(Clone, Copy)]
 pub enum Row {
     ReadHit,
     ReadFill,
@@ -34,7 +34,7 @@ pub enum Row {
 }
 
 // What a replay answers.
-#[derive(Drop)]
+#[derive(Clone, Copy)]
 pub enum Replayed {
     Done(Totals),
     Refused(Refusal),

@@ -13,7 +13,7 @@ use sentences::{ROOM, lay};
 
 // What happens at a request, counted from 1: whether it is a write, its item and cost, whether its item is held before it and after
 // it, its charge and which word tells why, how many items of how many slots the gap after it holds, and that gap's rent.
-#[derive(Drop)]
+#[derive(Clone, Copy)]
 pub struct Step {
     pub no: u64,
     pub write: u64,
@@ -29,7 +29,7 @@ pub struct Step {
 }
 
 // What the call for one request answers.
-#[derive(Drop)]
+#[derive(Clone, Copy)]
 pub enum Stepped {
     At(Step),
     Past,

@@ -34,7 +34,6 @@ fn of_flags(trace: &[u8], flags: &[u8], prev: &[u16; Requests::MAX], t: usize, r
     let after = flag(flags, t);
     let cost = trace::cost(trace, t);
     let row = replay::row_of(write, before, after);
-    let told = word(&row);
     let paid = replay::paid_of(row, cost as u32, trace::fill(trace) as u32);
     Step {
         no: t as u64 + 1,
@@ -44,7 +43,7 @@ fn of_flags(trace: &[u8], flags: &[u8], prev: &[u16; Requests::MAX], t: usize, r
         before: bit(before),
         after: bit(after),
         charge: paid.total,
-        word: told,
+        word: word(row),
         within: within(trace, flags, prev, t),
         slots: trace::slots(trace) as u64,
         rent,
@@ -105,10 +104,10 @@ fn bit(b: bool) -> u64
 }
 
 // The word of a row, in the order in which a line has them.
-fn word(row: &Row) -> u64
-    ensures { result ≡ word_of row.now }
+fn word(row: Row) -> u64
+    ensures { result ≡ word_of row }
 {
-    match *row {
+    match row {
         Row::ReadHit => 0,
         Row::ReadFill => 1,
         Row::ReadPast => 2,

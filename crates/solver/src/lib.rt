@@ -13,7 +13,7 @@ mod slots;
 mod walk;
 
 // What solving answers: the least cost of the trace.
-#[derive(Drop)]
+#[derive(Clone, Copy)]
 pub enum Solved {
     Least(u64),
     Refused(Refusal),

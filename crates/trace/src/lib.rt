@@ -11,7 +11,7 @@ use model::{Outcome, Refusal};
 mod rows;
 
 // What stands at the head of a trace: w, n, F, and where the first record begins.
-#[derive(Drop)]
+#[derive(Clone, Copy)]
 pub struct Header {
     pub slots: usize,
     pub requests: usize,
@@ -25,7 +25,7 @@ impl Header {
 }
 
 // What checking a trace answers.
-#[derive(Drop)]
+#[derive(Clone, Copy)]
 pub enum Checked {
     Sound(Header),
     Refused(Refusal),

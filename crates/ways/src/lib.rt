@@ -11,7 +11,7 @@ mod paid;
 mod turns;
 
 // The length of a way.
-#[derive(Drop)]
+#[derive(Clone, Copy)]
 pub struct Way {
     pub len: u32,
 }

@@ -13,7 +13,7 @@ mod name;
 mod numbers;
 
 // What a point or a request is worth.
-#[derive(Drop)]
+#[derive(Clone, Copy)]
 pub struct Worth {
     pub amount: u32,
 }

@@ -9,7 +9,7 @@ mod bytes;
 mod rows;
 
 // What writing answers: the plan's cost.
-#[derive(Drop)]
+#[derive(Clone, Copy)]
 pub enum Written {
     Cost(u64),
     Refused(Refusal),

@@ -41,4 +41,4 @@ pub returns : goal.returns
 returns c =
     let k = (goal.at.returns c).In-Sound in
     let f = few k in
-    rw c.in-Sound.is (filled-sound _ _ (told k) c.read-items.ensures c.link.ensures c.clear.ensures c.turn.ensures (omega arith) (omega arith))
+    filled-sound _ _ (told k) c.read-items.ensures c.link.ensures c.clear.ensures c.turn.ensures (omega arith) (omega arith)
