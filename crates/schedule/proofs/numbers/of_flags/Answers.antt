@@ -16,7 +16,7 @@ returns c =
     c.flag-after.ensures
     c.row_of-row.ensures
     (ap (λ (q : Totals). q.total) c.paid_of-paid.ensures)
-    c.word-told.ensures
+    c.word.ensures
     c.bit.ensures.0
     c.bit-2.ensures.0
     c.bit-3.ensures.0
