@@ -1,14 +1,13 @@
 -- A refusal that solve permits is the row that holds, so it has a code. Assumes nothing.
-use mathlib.Core.Path.{◌≡◌, sym}
+use mathlib.Core.Path.{◌≡◌}
 use Prim.Native.Nat.{ℕ}
 use native.Mathlib.Omega.{arith}
 use mathlib.Core.List.{List}
 use lib.ListN.{length}
 use Rattle.model.specs.Refusals.{Tried, passes, refusal, Answer, fine, refused}
 use Rattle.model.specs.declared.Refusal.{Refusal}
-use Rattle.solver.specs.Solve.{said, solve_tried, Permitted, Promise}
-use Rattle.solver.specs.declared.Solved.{Solved}
-use Rattle.solver.specs.declared.Solved.TheVariants.{Least, Refused}
+use Rattle.solver.specs.Solve.{solve_tried, Permitted, Promise}
+use Rattle.solver.specs.declared.Solved.TheVariants.{Refused}
 use Rattle.capi.specs.Codes.{Codable}
 use Rattle.capi.proofs.Small.{given_codable, solve_small}
 
