@@ -1,5 +1,8 @@
--- What a load promises of the lent buffer: counts alone, since no contract can say what a file holds. Assumes nothing.
+-- What a load promises of the lent buffer: counts, since no contract can say what a file holds, and the bytes of a reader that says
+-- which it has. Assumes nothing.
 use Rattle.std.specs.Prelude.{List, ℕ, ◌≡◌, ◌≤◌, length, take}
+use Rattle.std.specs.Prelude.{Option}
+use Rattle.std.specs.Io.KnownBytes.{Consumes}
 use Rattle.disk.specs.declared.Loaded.{Loaded}
 use Rattle.disk.specs.declared.Loaded.TheVariants.{Bytes, Failed}
 
@@ -11,3 +14,8 @@ IsPrefixLen n xs = (n ≤ length xs) × (n ≡ length (take n xs))
 abbrev pub Holds : Loaded → List ℕ → Type 0
 Holds (Bytes n) buf = IsPrefixLen n buf
 Holds Failed buf = Unit {0}
+
+-- the bytes that were loaded are the first that the reader had, where it says which it has, and no others are gone from it
+abbrev pub Takes : Loaded → (old new : Option (List ℕ)) → List ℕ → Type 0
+Takes (Bytes n) old new buf = Consumes old new (take n buf)
+Takes Failed old new buf = Unit {0}

@@ -4,7 +4,7 @@
 
 mod part;
 
-ghost use Rattle.disk.specs.Load.{Holds};
+ghost use Rattle.disk.specs.Load.{Holds, Takes};
 
 use std::env::FillError;
 use std::fmt::InlineText;
@@ -86,7 +86,8 @@ pub fn words<R: Env>(rt: &R) -> usize {
 
 // The same of standard input.
 pub fn read_input<I: Read, E: Print>(input: &mut I, err: &E, buf: &mut [u8]) -> Loaded
-    ensures { Holds result buf.new }
+    ensures within { Holds result buf.new }
+    ensures bytes { Takes result (I.remaining input.old) (I.remaining input.new) buf.new }
 {
     fill(input, err, b"standard input", buf)
 }
@@ -94,7 +95,8 @@ pub fn read_input<I: Read, E: Print>(input: &mut I, err: &E, buf: &mut [u8]) -> 
 // Reads until the buffer is full or the input ends: a pipe may hand over less than was asked for.
 // Each turn leaves less room, so the loop ends.
 fn fill<I: Read, E: Print>(input: &mut I, err: &E, name: &[u8], buf: &mut [u8]) -> Loaded
-    ensures { Holds result buf.new }
+    ensures within { Holds result buf.new }
+    ensures bytes { Takes result (I.remaining input.old) (I.remaining input.new) buf.new }
 {
     let mut done: usize = 0;
     while done < buf.len() {
