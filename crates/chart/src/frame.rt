@@ -2,13 +2,15 @@
 use crate::out::put;
 use crate::sizes::{Sizes, less};
 use replay::Totals;
+use std::io;
 use std::num::wrapping_add_u64;
 
 // The picture's size, its styles, its marks around the point that they stand at, and its background.
-pub fn open(s: Sizes) -> bool {
+pub fn open<O: Print>(out: &O, s: Sizes) -> io::Result<()> {
     let width = s.width();
     let height = s.height();
     put(
+        out,
         b"<svg xmlns=\"http://www.w3.org/2000/svg\" width=\"@\" height=\"@\">\n\
         <style>text{font:12px sans-serif;fill:#222}.t{font-weight:bold;font-size:14px}.n{fill:#666}\
         .b{fill:#fff}.l{fill:#f1f3f5}.v{stroke:#d5d9de;stroke-width:1}.k{stroke:#555;stroke-width:.6}\
@@ -25,10 +27,11 @@ pub fn open(s: Sizes) -> bool {
 }
 
 // The totals and what the trace's header says, the legend, and the names of what stands above and below the slot rows.
-pub fn names(s: Sizes, fill: u64, totals: Totals) -> bool {
+pub fn names<O: Print>(out: &O, s: Sizes, fill: u64, totals: Totals) -> io::Result<()> {
     let full = s.below(18);
     let rent = s.below(36);
     put(
+        out,
         b"<text class=\"t\" x=\"16\" y=\"24\">cost @: read misses @, fills @, write hits @ \
         (requests @, slots @, fill price @)</text>\n\
         <use href=\"#f\" x=\"22\" y=\"44\"/><text class=\"n\" x=\"34\" y=\"48\">miss and fill</text>\
@@ -55,19 +58,17 @@ pub fn names(s: Sizes, fill: u64, totals: Totals) -> bool {
 }
 
 // The slot rows.
-pub fn rows(s: Sizes) -> bool {
+pub fn rows<O: Print>(out: &O, s: Sizes) -> io::Result<()> {
     let mut row: u64 = 0;
     while row < s.slots {
-        if !slot(s, row) {
-            return false;
-        }
+        slot(out, s, row)?;
         row += 1;
     }
-    true
+    Ok(())
 }
 
 // A slot row, named at both ends.
-fn slot(s: Sizes, row: u64) -> bool {
+fn slot<O: Print>(out: &O, s: Sizes, row: u64) -> io::Result<()> {
     let y = s.y(row);
     let name = wrapping_add_u64(y, 14);
     let shown = wrapping_add_u64(row, 1);
@@ -75,6 +76,7 @@ fn slot(s: Sizes, row: u64) -> bool {
     let width = less(end, Sizes::LEFT);
     let right = wrapping_add_u64(end, 8);
     put(
+        out,
         b"<rect class=\"l\" x=\"@\" y=\"@\" width=\"@\" height=\"20\"/>\
         <text class=\"n\" x=\"16\" y=\"@\">slot @</text><text class=\"n\" x=\"@\" y=\"@\">slot @</text>\n",
         &[Sizes::LEFT, y, width, name, shown, right, name, shown],

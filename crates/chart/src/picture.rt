@@ -7,93 +7,98 @@ use crate::{frame, marks};
 use model::Requests;
 use replay::Totals;
 use schedule::Stepped;
+use std::io;
 
-pub fn draw(trace: &[u8], plan: &[u8], totals: Totals) -> bool {
+pub fn draw<O: Print>(out: &O, trace: &[u8], plan: &[u8], totals: Totals) -> io::Result<()> {
     let s = Sizes::new(trace::requests(trace) as u64, trace::slots(trace) as u64);
-    frame::open(s)
-        && frame::names(s, trace::fill(trace), totals)
-        && frame::rows(s)
-        && filled(trace, plan, s)
+    frame::open(out, s)?;
+    frame::names(out, s, trace::fill(trace), totals)?;
+    frame::rows(out, s)?;
+    filled(out, trace, plan, s)
 }
 
 // The gaps, the keeps, and over them the requests.
-fn filled(trace: &[u8], plan: &[u8], s: Sizes) -> bool {
+fn filled<O: Print>(out: &O, trace: &[u8], plan: &[u8], s: Sizes) -> io::Result<()> {
     let flags = plan::flags(trace, plan);
     let mut next = [0u16; Requests::MAX];
     let mut prev = [0u16; Requests::MAX];
     let mut slots = [0u8; Requests::MAX];
     links::fill(trace, &mut next, &mut prev);
     lanes::lanes(trace, flags, &mut slots);
-    gaps(trace, plan, s)
-        && keeps(trace, flags, &slots, &next, s)
-        && requests(trace, plan, &slots, &prev, s)
-        && put(b"</svg>\n", &[])
+    gaps(out, trace, plan, s)?;
+    keeps(out, trace, flags, &slots, &next, s)?;
+    requests(out, trace, plan, &slots, &prev, s)?;
+    put(out, b"</svg>\n", &[])
 }
 
 // Each gap with how many items it holds, and its rent.
-fn gaps(trace: &[u8], plan: &[u8], s: Sizes) -> bool {
+fn gaps<O: Print>(out: &O, trace: &[u8], plan: &[u8], s: Sizes) -> io::Result<()> {
     let mut t: usize = 0;
     let n = trace::requests(trace);
     while t < n {
-        if !gap(trace, plan, t, s) {
-            return false;
-        }
+        gap(out, trace, plan, t, s)?;
         t += 1;
     }
-    true
+    Ok(())
 }
 
-fn gap(trace: &[u8], plan: &[u8], t: usize, s: Sizes) -> bool {
+fn gap<O: Print>(out: &O, trace: &[u8], plan: &[u8], t: usize, s: Sizes) -> io::Result<()> {
     match schedule::step_of(trace, plan, t) {
-        Stepped::At(here) => marks::gap(t as u64, here.within, here.rent, s),
-        _ => true,
+        Stepped::At(here) => marks::gap(out, t as u64, here.within, here.rent, s),
+        _ => Ok(()),
     }
 }
 
-fn keeps(
+fn keeps<O: Print>(
+    out: &O,
     trace: &[u8],
     flags: &[u8],
     slots: &[u8; Requests::MAX],
     next: &[u16; Requests::MAX],
     s: Sizes,
-) -> bool {
+) -> io::Result<()> {
     let mut t: usize = 0;
     while t < flags.len() {
         if flags[t] == 1 {
             let to = link(next, t) as u64;
-            if !marks::keep(trace::item(trace, t), t as u64, to, row(slots, t), s) {
-                return false;
-            }
+            marks::keep(out, trace::item(trace, t), t as u64, to, row(slots, t), s)?;
         }
         t += 1;
     }
-    true
+    Ok(())
 }
 
-fn requests(
+fn requests<O: Print>(
+    out: &O,
     trace: &[u8],
     plan: &[u8],
     slots: &[u8; Requests::MAX],
     prev: &[u16; Requests::MAX],
     s: Sizes,
-) -> bool {
+) -> io::Result<()> {
     let mut t: usize = 0;
     let n = trace::requests(trace);
     while t < n {
         let after = row(slots, t);
         let before = row(slots, link(prev, t));
-        if !request(trace, plan, t, after, before, s) {
-            return false;
-        }
+        request(out, trace, plan, t, after, before, s)?;
         t += 1;
     }
-    true
+    Ok(())
 }
 
-fn request(trace: &[u8], plan: &[u8], t: usize, after: u64, before: u64, s: Sizes) -> bool {
+fn request<O: Print>(
+    out: &O,
+    trace: &[u8],
+    plan: &[u8],
+    t: usize,
+    after: u64,
+    before: u64,
+    s: Sizes,
+) -> io::Result<()> {
     match schedule::step_of(trace, plan, t) {
-        Stepped::At(here) => marks::request(t as u64, here, after, before, s),
-        _ => true,
+        Stepped::At(here) => marks::request(out, t as u64, &here, after, before, s),
+        _ => Ok(()),
     }
 }
 

@@ -1,3 +1,2 @@
 -- Files: what a caller learns of a load, and the name of a part file.
 pub mod Loads
-mod Names

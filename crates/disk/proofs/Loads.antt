@@ -1,9 +1,6 @@
 -- What a caller learns who takes a load apart. Assumes nothing.
-use Prim.Native.Nat.{ℕ}
-use mathlib.Core.Path.{◌≡◌}
-use mathlib.Core.List.{List}
-use Rattle.io.specs.Counts.{IsPrefixLen}
-use Rattle.disk.specs.Load.{Holds}
+use Rattle.std.proofs.Common.{ℕ, ◌≡◌, List}
+use Rattle.disk.specs.Load.{IsPrefixLen, Holds}
 use Rattle.disk.specs.declared.Loaded.{Loaded}
 use Rattle.disk.specs.declared.Loaded.TheVariants.{Bytes}
 

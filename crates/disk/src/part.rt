@@ -1,9 +1,16 @@
 // The part file, which stands beside a file until it is whole.
 ghost use Rattle.std.specs.Prelude.{◌+◌, ◌≤◌, ◌≡◌, ◌++◌, length, take};
-ghost use Rattle.io.specs.Counts.{IsPrefixLen};
+ghost use Rattle.disk.specs.Load.{IsPrefixLen};
 ghost use Rattle.disk.specs.Part.{suffix};
 
-use libc::PATH_MAX;
+use crate::fail;
+use std::fs::{OpenFile, OpenOptions};
+use std::io::Write;
+use std::rt::Files;
+use std::{fs, io};
+
+// The longest path, with the 0 that C adds.
+pub const PATH_MAX: usize = 4096;
 
 // The longest path whose part file has a path too: five bytes of suffix, and the 0 that C adds.
 pub const LONGEST: usize = PATH_MAX - 6;
@@ -16,33 +23,46 @@ pub fn name(path: &[u8], to: &mut [u8]) -> usize
 {
     let n = path.len();
     let end = n + 5;
-    bytes::copy(path, to);
-    bytes::copy(b".part", &mut to[n..end]);
+    to[..n].copy_from_slice(path);
+    to[n..end].copy_from_slice(b".part");
     end
 }
 
 // Makes the file with these bytes, or says why not and leaves none. A file that is there already
 // is left alone: it may be another program's, at work on the same file.
-pub fn make(path: &[u8], bytes: &[u8]) -> bool {
-    let fd = os::create(path);
-    if fd < 0 {
-        os::fail(path);
+pub fn make<R: Files, E: Print>(rt: &R, err: &E, path: &str, bytes: &[u8]) -> bool {
+    match OpenOptions::new()
+        .write(true)
+        .create_new(true)
+        .open(rt, path)
+    {
+        Ok(file) => filled(rt, err, path, file, bytes),
+        Err(error) => {
+            fail(err, path.as_bytes(), error);
+            false
+        }
+    }
+}
+
+// Writes the bytes to the file just made; where that fails, it says why and removes the file.
+fn filled<R: Files, E: Print>(
+    rt: &R,
+    err: &E,
+    path: &str,
+    mut file: R::File,
+    bytes: &[u8],
+) -> bool {
+    if let Err(error) = reached(&mut file, bytes) {
+        fail(err, path.as_bytes(), error);
+        drop(file);
+        let _ = fs::remove_file(rt, path);
         return false;
     }
-    if !reached(fd, bytes) {
-        os::fail(path);
-        libc::close(fd);
-        os::unlink(path);
-        return false;
-    }
-    libc::close(fd);
     true
 }
 
 // Whether all the bytes were written and have reached the device.
-fn reached(fd: i32, bytes: &[u8]) -> bool {
-    if !io::write_all(fd, bytes) {
-        return false;
-    }
-    libc::fsync(fd) == 0
+fn reached<F: Write + OpenFile>(file: &mut F, bytes: &[u8]) -> io::Result<()> {
+    file.write_all(bytes)?;
+    file.sync_all()
 }

@@ -8,12 +8,11 @@ ghost use Rattle.solver.specs.Solve.{said};
 ghost use Rattle.solver.proofs.Promise.{LeastOf};
 ghost use Rattle.glazepouch.specs.Printed.{page_of, least_page, Told};
 
-use libc::STDOUT_FILENO;
 use sentences::{ROOM, shown};
 use solver::Solved;
 
 // What can be printed of a trace and a plan.
-#[derive(Drop)]
+#[derive(Clone, Copy)]
 pub enum Part {
     Judgement,
     Totals,
@@ -24,10 +23,10 @@ pub enum Part {
 }
 
 // Prints one of them.
-pub fn tell(asked: Part, trace: &[u8], plan: &[u8]) -> bool {
+pub fn tell<O: Print, E: Print>(out: &O, err: &E, asked: Part, trace: &[u8], plan: &[u8]) -> bool {
     let mut page = [0u8; ROOM];
     let size = lay_part(asked, trace, plan, &mut page);
-    print_part(asked, trace, plan, shown(&page, size))
+    print_part(out, err, asked, trace, plan, shown(&page, size))
 }
 
 fn lay_part(asked: Part, trace: &[u8], plan: &[u8], page: &mut [u8; ROOM]) -> usize
@@ -44,19 +43,26 @@ fn lay_part(asked: Part, trace: &[u8], plan: &[u8], page: &mut [u8; ROOM]) -> us
 }
 
 // Trace and plan are not read, here and below: they are there so that the bytes can be asked to be their answer.
-fn print_part(asked: Part, trace: &[u8], plan: &[u8], bytes: &[u8]) -> bool
+fn print_part<O: Print, E: Print>(
+    out: &O,
+    err: &E,
+    asked: Part,
+    trace: &[u8],
+    plan: &[u8],
+    bytes: &[u8],
+) -> bool
     requires { bytes.now ≡ page_of asked trace.now plan.now }
 {
-    print(bytes)
+    print(out, err, bytes)
 }
 
 // Prints what solve found of a trace.
-pub fn least(trace: &[u8], found: Solved) -> bool
+pub fn least<O: Print, E: Print>(out: &O, err: &E, trace: &[u8], found: Solved) -> bool
     requires { LeastOf trace.now (said found) }
 {
     let mut page = [0u8; ROOM];
     let size = lay_least(found, &mut page);
-    print_least(trace, shown(&page, size))
+    print_least(out, err, trace, shown(&page, size))
 }
 
 fn lay_least(found: Solved, page: &mut [u8; ROOM]) -> usize
@@ -68,29 +74,37 @@ fn lay_least(found: Solved, page: &mut [u8; ROOM]) -> usize
     }
 }
 
-fn print_least(trace: &[u8], bytes: &[u8]) -> bool
+fn print_least<O: Print, E: Print>(out: &O, err: &E, trace: &[u8], bytes: &[u8]) -> bool
     requires { Told trace.now bytes.now }
 {
-    print(bytes)
+    print(out, err, bytes)
 }
 
 // Prints how far a measured cost is above the least.
-pub fn ratio(least: u64, measured: u64) -> bool {
+pub fn ratio<O: Print, E: Print>(out: &O, err: &E, least: u64, measured: u64) -> bool {
     let mut page = [0u8; ROOM];
     let size = answers::rated(least, measured, &mut page);
-    print_ratio(least, measured, shown(&page, size))
+    print_ratio(out, err, least, measured, shown(&page, size))
 }
 
-fn print_ratio(least: u64, measured: u64, bytes: &[u8]) -> bool
+fn print_ratio<O: Print, E: Print>(
+    out: &O,
+    err: &E,
+    least: u64,
+    measured: u64,
+    bytes: &[u8],
+) -> bool
     requires { bytes.now ≡ rated_page least measured }
 {
-    print(bytes)
+    print(out, err, bytes)
 }
 
-fn print(bytes: &[u8]) -> bool {
-    let written = io::write_all(STDOUT_FILENO, bytes);
-    if !written {
-        os::fail(b"standard output");
+fn print<O: Print, E: Print>(out: &O, err: &E, bytes: &[u8]) -> bool {
+    match out.write_all(bytes) {
+        Ok(()) => true,
+        Err(error) => {
+            disk::fail(err, b"standard output", error);
+            false
+        }
     }
-    written
 }

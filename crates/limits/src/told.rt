@@ -1,82 +1,86 @@
 // The lines that are printed: what was tried, and after a colon what was answered.
 use floor::Floored;
 use judge::Judged;
-use libc::STDOUT_FILENO;
 use lines::ROOM;
 use model::Refusal;
 use solver::Solved;
 use writer::Written;
 
 // What was tried.
-pub fn case(name: &[u8]) {
-    io::write_all(STDOUT_FILENO, name);
-    io::write_all(STDOUT_FILENO, b": ");
+pub fn case<O: Print>(out: &O, name: &[u8]) {
+    put(out, name);
+    put(out, b": ");
 }
 
 // A word for an answer.
-pub fn word(answer: &[u8]) {
-    io::write_all(STDOUT_FILENO, answer);
-    io::write_all(STDOUT_FILENO, b"\n");
+pub fn word<O: Print>(out: &O, answer: &[u8]) {
+    put(out, answer);
+    put(out, b"\n");
 }
 
-pub fn solved(answer: Solved) -> bool {
+pub fn solved<O: Print>(out: &O, answer: Solved) -> bool {
     let mut line = [0u8; ROOM];
     let size = match answer {
         Solved::Least(cost) => lines::least(cost, &mut line),
         Solved::Refused(r) => lines::refused(r, &mut line),
     };
-    print(&line, size)
+    print(out, &line, size)
 }
 
-pub fn judged(answer: Judged) -> bool {
+pub fn judged<O: Print>(out: &O, answer: Judged) -> bool {
     let mut line = [0u8; ROOM];
     let size = match answer {
         Judged::Accepted(cost) => lines::accepted(cost, &mut line),
         Judged::Refused(r) => lines::refused(r, &mut line),
     };
-    print(&line, size)
+    print(out, &line, size)
 }
 
-pub fn written(answer: Written) -> bool {
+pub fn written<O: Print>(out: &O, answer: Written) -> bool {
     match answer {
-        Written::Cost(cost) => number(b"cost ", cost),
-        Written::Refused(r) => refused(r),
+        Written::Cost(cost) => number(out, b"cost ", cost),
+        Written::Refused(r) => refused(out, r),
     }
 }
 
 // A floor, or one of the refusals.
-pub fn floored(answer: Floored) -> bool {
+pub fn floored<O: Print>(out: &O, answer: Floored) -> bool {
     match answer {
-        Floored::Floor(floor) => floor_of(floor),
-        Floored::Refused(r) => refused(r),
+        Floored::Floor(floor) => floor_of(out, floor),
+        Floored::Refused(r) => refused(out, r),
     }
 }
 
 // The floor, if it is one of the two that the cases have.
-fn floor_of(floor: i64) -> bool {
+fn floor_of<O: Print>(out: &O, floor: i64) -> bool {
     if floor == 44 {
-        return number(b"floor ", 44);
+        return number(out, b"floor ", 44);
     }
     if floor == 60 {
-        return number(b"floor ", 60);
+        return number(out, b"floor ", 60);
     }
-    word(b"another floor");
+    word(out, b"another floor");
     false
 }
 
 // `refused N at P`.
-pub fn refused(r: Refusal) -> bool {
+pub fn refused<O: Print>(out: &O, r: Refusal) -> bool {
     let mut line = [0u8; ROOM];
     let size = lines::refused(r, &mut line);
-    print(&line, size)
+    print(out, &line, size)
 }
 
-fn print(line: &[u8; ROOM], size: usize) -> bool {
-    io::write_all(STDOUT_FILENO, lines::shown(line, size))
+fn print<O: Print>(out: &O, line: &[u8; ROOM], size: usize) -> bool {
+    put(out, lines::shown(line, size))
 }
 
 // A word and a number.
-fn number(word: &[u8], n: u64) -> bool {
-    io::write_all(STDOUT_FILENO, word);
-    io::print_decimal(STDOUT_FILENO, n) && io::write_all(STDOUT_FILENO, b"\n")
+fn number<O: Print>(out: &O, word: &[u8], n: u64) -> bool {
+    put(out, word);
+    out.print(n).is_ok() && put(out, b"\n")
+}
+
+// Whether the bytes were written.
+fn put<O: Print>(out: &O, bytes: &[u8]) -> bool {
+    out.write_all(bytes).is_ok()
 }

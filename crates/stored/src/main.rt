@@ -7,8 +7,8 @@
 #![tactic(auto)]
 
 use judge::Judged;
-use libc::{STDIN_FILENO, STDOUT_FILENO};
 use solver::Solved;
+use std::io::Read;
 
 // The longest stored trace is of twelve requests.
 #[derive(Drop)]
@@ -33,55 +33,56 @@ enum Turn {
     End,
 }
 
-fn main() {
-    tell_all();
+fn main(rt: HostRuntime) {
+    tell_all(&mut rt.stdin(), &rt);
 }
 
 // A proved loop has to end, and nothing says that the input does: so it counts up to a number that
 // no file has.
-fn tell_all() {
+fn tell_all<I: Read, O: Print>(input: &mut I, out: &O) {
     let mut count: u64 = 0;
-    while count < 1000000 && agreed(next(), count) {
+    while count < 1000000 && agreed(out, next(input), count) {
         count += 1;
     }
 }
 
 // Whether to go on after so many traces; if not, says why.
-fn agreed(turn: Turn, count: u64) -> bool {
+fn agreed<O: Print>(out: &O, turn: Turn, count: u64) -> bool {
     match turn {
         Turn::Agrees => true,
-        Turn::Differs => told(count, b" traces agree, and the next does not\n"),
+        Turn::Differs => told(out, count, b" traces agree, and the next does not\n"),
         Turn::Broken => told(
+            out,
             count,
             b" traces agree, and the next is cut short or too long\n",
         ),
-        Turn::End => told(count, b" traces agree\n"),
+        Turn::End => told(out, count, b" traces agree\n"),
     }
 }
 
-fn told(count: u64, what: &[u8]) -> bool {
-    io::print_decimal(STDOUT_FILENO, count);
-    io::write_all(STDOUT_FILENO, what);
+fn told<O: Print>(out: &O, count: u64, what: &[u8]) -> bool {
+    let _ = out.print(count);
+    let _ = out.write_all(what);
     false
 }
 
-fn next() -> Turn {
+fn next<I: Read>(input: &mut I) -> Turn {
     let mut size = [0u8; 2];
-    let got = io::read_full(STDIN_FILENO, &mut size);
+    let got = read_full(input, &mut size);
     if got == 0 {
         return Turn::End;
     }
     let length = fields::u16_at(&size, 0) as usize;
     if got == 2 && length <= Longest::TRACE {
-        return compared(length);
+        return compared(input, length);
     }
     Turn::Broken
 }
 
 // Reads a trace of this length and its cost.
-fn compared(length: usize) -> Turn {
+fn compared<I: Read>(input: &mut I, length: usize) -> Turn {
     let mut stored = [0u8; Longest::STORED];
-    if !read(&mut stored, length) {
+    if !read(input, &mut stored, length) {
         return Turn::Broken;
     }
     if agree(
@@ -94,14 +95,28 @@ fn compared(length: usize) -> Turn {
 }
 
 // Whether the trace and the four bytes after it were read whole.
-fn read(stored: &mut [u8], length: usize) -> bool {
+fn read<I: Read>(input: &mut I, stored: &mut [u8], length: usize) -> bool {
     if stored.len() < 4 {
         return false;
     }
     if stored.len() - 4 < length {
         return false;
     }
-    io::read_full(STDIN_FILENO, &mut stored[..length + 4]) == length + 4
+    read_full(input, &mut stored[..length + 4]) == length + 4
+}
+
+// Reads until buf is full, the input ends or a read fails, and answers how many bytes it put at the
+// start of buf.
+fn read_full<I: Read>(input: &mut I, buf: &mut [u8]) -> usize {
+    let mut done: usize = 0;
+    while done < buf.len() {
+        let more = input.read(&mut buf[done..]).unwrap_or(0);
+        if more == 0 {
+            return done;
+        }
+        done += more;
+    }
+    done
 }
 
 // Whether solve answers this cost with a plan that the judge accepts at the same cost.

@@ -17,14 +17,14 @@ impl V17 {
     const FLAG_4: usize = 19;
 }
 
-pub fn run() {
+pub fn run<O: Print>(out: &O) {
     let mut trace = [0u8; V17::TRACE];
     curve::lay_requests(&mut trace, b"bccaabcb", b"rrrrrrrr", &[10u8; 8]);
     records::lay(&mut trace, 0, &records::head(2, 8, 4));
-    judged_both(&trace);
+    judged_both(out, &trace);
 }
 
-fn judged_both(trace: &[u8]) {
+fn judged_both<O: Print>(out: &O, trace: &[u8]) {
     let mut plan = [0u8; V17::PLAN];
     writer::write(
         trace,
@@ -32,17 +32,17 @@ fn judged_both(trace: &[u8]) {
         &[0, 0, 0, 6, 0, 0, 0, 0],
         &mut plan,
     );
-    judged(b"V17 flags 11100100 ", trace, &plan);
+    judged(out, b"V17 flags 11100100 ", trace, &plan);
     plan[V17::FLAG_4] = 1;
-    judged(b"V17 flags 11110100 ", trace, &plan);
+    judged(out, b"V17 flags 11110100 ", trace, &plan);
 }
 
-fn judged(name: &[u8], trace: &[u8], plan: &[u8]) {
-    io::write_all(libc::STDOUT_FILENO, name);
+fn judged<O: Print>(out: &O, name: &[u8], trace: &[u8], plan: &[u8]) {
+    let _ = out.write_all(name);
     let mut line = [0u8; lines::ROOM];
     let size = match judge::judge(trace, plan) {
         Judged::Accepted(cost) => lines::accepted(cost, &mut line),
         Judged::Refused(r) => lines::refused(r, &mut line),
     };
-    io::write_all(libc::STDOUT_FILENO, lines::shown(&line, size));
+    let _ = out.write_all(lines::shown(&line, size));
 }
