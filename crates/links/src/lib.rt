@@ -12,6 +12,7 @@ mod turn;
 
 // Of a sound trace the first n places have each request's next and previous request of the same item, counted from 0, or n for none;
 // the rest is kept. Of any other all is kept.
+#[inline(always)]
 pub fn fill(
     trace: &[u8],
     next: &mut [u16; Requests::MAX],

@@ -64,12 +64,18 @@ fn spread(
     held
 }
 
-// The distances back from point n, until point 0 is reached; hop says where the way goes on from each node.
-pub fn shortest(from: &[u16; 6150], len: &[u32; 6150], n: usize, hop: &mut [u16; 2050]) -> Search
-    requires { Graph n from.now len.now × (length hop.old ≡ 2050) }
-    ensures { Finds (suc (2 * n)) n (ways_by from.now len.now) result.dist hop.new }
+// The distances back from point n, until point 0 is reached, in a fresh search; hop says where the way goes on from each node. The
+// search is lent, since one that is handed out is copied, and the stack is short.
+pub fn shortest(
+    from: &[u16; 6150],
+    len: &[u32; 6150],
+    n: usize,
+    hop: &mut [u16; 2050],
+    s: &mut Search,
+)
+    requires { Graph n from.now len.now × (length hop.old ≡ 2050) × (s.old.dist ≡ replicate 2050 far) }
+    ensures { Finds (suc (2 * n)) n (ways_by from.now len.now) s.new.dist hop.new }
 {
-    let mut s = Search::fresh();
     let mut stack = [1u16; 2050];
     let mut list = [1u16; 2050];
     s.dist[n] = 0;
@@ -100,5 +106,4 @@ pub fn shortest(from: &[u16; 6150], len: &[u32; 6150], n: usize, hop: &mut [u16;
         );
         left -= 1;
     }
-    s
 }

@@ -3,7 +3,7 @@
 ghost use Rattle.std.specs.Prelude.{suc, ◌≤◌, ◌<◌};
 ghost use Rattle.steps.specs.Slots.{Laid, Cheap};
 
-use crate::search::shortest;
+use crate::search::{Search, shortest};
 use crate::walk::walk;
 use ways::lengths;
 use worths::raise;
@@ -25,7 +25,8 @@ fn more(
 {
     let mut hop = [1u16; 2050];
     lengths(n, fill, k, from, charges, flags, worth, len);
-    let s = shortest(from, len, n, &mut hop);
+    let mut s = Search::fresh();
+    shortest(from, len, n, &mut hop, &mut s);
     let d = s.dist[0] as u64;
     raise(&s.dist, 2 * n + 1, d, worth);
     walk(trace, worth, flags, &hop, n, k);
