@@ -64,8 +64,8 @@ fn spread(
     held
 }
 
-// The distances back from point n, until point 0 is reached, in a fresh search; hop says where the way goes on from each node. The
-// search is lent, since one that is handed out is copied, and the stack is short.
+// The distances back from point n, until point 0 is reached; hop says where the way goes on from each node. The search is lent, since
+// one that is handed out is copied, and the stack is short; it begins anew.
 pub fn shortest(
     from: &[u16; 6150],
     len: &[u32; 6150],
@@ -73,9 +73,10 @@ pub fn shortest(
     hop: &mut [u16; 2050],
     s: &mut Search,
 )
-    requires { Graph n from.now len.now × (length hop.old ≡ 2050) × (s.old.dist ≡ replicate 2050 far) }
+    requires { Graph n from.now len.now × (length hop.old ≡ 2050) }
     ensures { Finds (suc (2 * n)) n (ways_by from.now len.now) s.new.dist hop.new }
 {
+    *s = Search::fresh();
     let mut stack = [1u16; 2050];
     let mut list = [1u16; 2050];
     s.dist[n] = 0;

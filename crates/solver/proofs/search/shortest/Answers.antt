@@ -26,7 +26,7 @@ ready c =
 pub loop-current-init : goal.loop-current-init
 loop-current-init c =
     let ones = length-replicate {A = ℕ} 2050 1 in
-    runs_begin _ _ _ _ _ (replicate 2050 1) _ (omega (arith, c.requires.0.few)) (omega arith) (even_of _ _ c.requires.2) c.requires.1 ones ones
+    runs_begin _ _ _ _ _ (replicate 2050 1) _ (omega (arith, c.requires.0.few)) (omega arith) (even_of _ _ c.fresh.ensures) c.requires.1 ones ones
 
 pub spread-ends-requires : goal.spread-ends-requires
 spread-ends-requires c =

@@ -5,7 +5,7 @@ use Rattle.steps.proofs.Turn.{turn_graph, turn-trail, turn-laid}
 use Rattle.solver.proofs.slots.more.Goals as goal
 
 pub shortest-requires : goal.shortest-requires
-shortest-requires c = (turn_graph c.requires.0 c.lengths.ensures, refl, c.fresh-s.ensures)
+shortest-requires c = (turn_graph c.requires.0 c.lengths.ensures, refl)
 
 pub overflow_mul-n : goal.overflow_mul-n
 overflow_mul-n c = omega (arith, laid_few c.requires.0)
