@@ -86,7 +86,7 @@ fn room(item: u64, width: u64) -> u64 {
 pub fn request<O: Print>(
     out: &O,
     t: u64,
-    here: &Step,
+    here: Step,
     after: u64,
     before: u64,
     s: Sizes,
@@ -113,7 +113,7 @@ fn number<O: Print>(out: &O, t: u64, x: u64, dense: bool) -> io::Result<()> {
 }
 
 // What a request asks for: R or W, and the item.
-fn asked<O: Print>(out: &O, x: u64, here: &Step, dense: bool) -> io::Result<()> {
+fn asked<O: Print>(out: &O, x: u64, here: Step, dense: bool) -> io::Result<()> {
     let left = chosen(dense, x, wrapping_add_u64(x, 3));
     put(
         out,
@@ -123,7 +123,7 @@ fn asked<O: Print>(out: &O, x: u64, here: &Step, dense: bool) -> io::Result<()> 
 }
 
 // The request in words, at the end of a text or of a mark.
-fn title<O: Print>(out: &O, here: &Step, mark: u64) -> io::Result<()> {
+fn title<O: Print>(out: &O, here: Step, mark: u64) -> io::Result<()> {
     put(
         out,
         b"<title>request @: [read|write] of item @, cost @: \
@@ -141,7 +141,7 @@ fn title<O: Print>(out: &O, here: &Step, mark: u64) -> io::Result<()> {
 }
 
 // The mark of what happens at a request: on its item's row before it or after it, or above the rows where it passes by.
-fn event<O: Print>(out: &O, x: u64, here: &Step, after: u64, before: u64) -> io::Result<()> {
+fn event<O: Print>(out: &O, x: u64, here: Step, after: u64, before: u64) -> io::Result<()> {
     let word = here.word;
     let y = match word {
         1 => after,

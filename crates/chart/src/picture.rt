@@ -97,7 +97,7 @@ fn request<O: Print>(
     s: Sizes,
 ) -> io::Result<()> {
     match schedule::step_of(trace, plan, t) {
-        Stepped::At(here) => marks::request(out, t as u64, &here, after, before, s),
+        Stepped::At(here) => marks::request(out, t as u64, here, after, before, s),
         _ => Ok(()),
     }
 }

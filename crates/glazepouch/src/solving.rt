@@ -29,7 +29,7 @@ fn solved<R: Files + Env + Print, E: Print>(
     plan: &mut [u8; crate::PLAN_ROOM],
 ) -> bool {
     let found = solver::solve(trace, plan);
-    if keep && !kept(rt, err, &found, trace, plan) {
+    if keep && !kept(rt, err, found, trace, plan) {
         return false;
     }
     said::least(rt, err, trace, found)
@@ -39,7 +39,7 @@ fn solved<R: Files + Env + Print, E: Print>(
 fn kept<R: Files + Env, E: Print>(
     rt: &R,
     err: &E,
-    found: &Solved,
+    found: Solved,
     trace: &[u8],
     plan: &[u8; crate::PLAN_ROOM],
 ) -> bool {
