@@ -12,29 +12,6 @@ use borrow.Author.Tests.{eqb-true, eqb-false}
 use Rattle.model.proofs.Sums.{split}
 use Rattle.links.specs.Chains.{Single, Undoes}
 
--- the places below t have none, and past n the list is kept
-pub record Clearing (old prev : List ℕ) (n t : ℕ) : Type 0 where
-  pub upto : t ≤ n
-  pub long : length prev ≡ length old
-  pub none : (s : ℕ) → s < t → get_or prev s 0 ≡ n
-  pub kept : drop n prev ≡ drop n old
-
-pub clear_starts : {prev : List ℕ} {n : ℕ} → Clearing prev prev n 0
-clear_starts = record { upto = omega arith; long = refl; none = λ s h. absurd (omega arith); kept = refl }
-
-pub clear_steps : {old prev : List ℕ} {n t : ℕ} → n ≤ length old → t < n → Clearing old prev n t → Clearing old (set prev t n) n (t + 1)
-clear_steps {old} {prev} {n} {t} few l w =
-    let long = w.long in
-    record {
-      upto = omega arith;
-      long = length-set prev t n ∙ long;
-      none = λ s h. elim (dec_lt s t) [
-        | yes y ↦ get_or-set_other prev t s n 0 (λ e. omega arith) ∙ w.none s y
-        | no y ↦ let q : s ≡ t = omega arith in rw q (get_or-set_same prev t n 0 (omega arith))
-      ];
-      kept = drop-set-lt n prev t n l ∙ w.kept;
-    }
-
 -- the requests below t are laid down, and past n the list is kept
 pub record Turning (next old prev : List ℕ) (n t : ℕ) : Type 0 where
   pub upto : t ≤ n
