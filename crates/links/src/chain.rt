@@ -12,7 +12,7 @@ pub fn bucket(items: &[u16], n: usize, t: usize) -> usize
     usize::from(items[t]) % n
 }
 
-// The next request of t's item, by a walk along the chain from `start`.
+// The next request of t's item, by a walk along the chain from `start`: the chain says where the loop goes on, and no range does.
 pub fn walk(items: &[u16], chain: &[u16], n: usize, t: usize, start: usize) -> usize
     requires { Ready items.now chain.now n t start }
     ensures { First (item_in items.now) n (item_in items.now t) (suc t) result }

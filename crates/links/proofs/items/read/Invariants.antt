@@ -4,4 +4,3 @@ use Rattle.links.proofs.items.read.Given as goal
 
 abbrev pub invariant-loop-t : goal.invariant-loop-t
 invariant-loop-t l = Reading l.trace l.items l.n l.t
-

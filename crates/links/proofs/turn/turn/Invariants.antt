@@ -4,4 +4,3 @@ use Rattle.links.proofs.turn.turn.Given as goal
 
 abbrev pub invariant-loop-t : goal.invariant-loop-t
 invariant-loop-t l = Turning l.next l.initial.prev l.prev l.n l.t
-
