@@ -5,6 +5,7 @@
 ghost use Rattle.std.specs.Prelude.{◌≡◌};
 ghost use Rattle.records.specs.Records.{head_of, record_of, laid};
 
+// The first n bytes, or all where there are fewer.
 pub use pages::first;
 
 // What stands before the records: the mark, version 1, w, n and F.
