@@ -147,11 +147,8 @@ impl Pen {
             }
             b'|' => self.hidden = self.hidden.wrapping_sub(1),
             b']' => self.hidden = 0,
-            _ => {
-                if self.hidden == 0 {
-                    self.visible(b, next, n, page);
-                }
-            }
+            _ if 0 < self.hidden => {}
+            _ => self.visible(b, next, n, page),
         }
     }
 
