@@ -5,30 +5,23 @@
 ghost use Rattle.std.specs.Prelude.{◌≡◌};
 ghost use Rattle.ways.specs.Promise.{Sourced, Charged, Measured};
 
+use crate::turns::Network;
+
 mod lists;
 mod origins;
 mod paid;
 mod turns;
 
-// The length of a way.
-#[derive(Clone, Copy)]
-pub struct Way {
-    pub len: u32,
-}
-
-impl Way {
-    // The length of a way that is closed.
-    pub const CLOSED: u32 = 4294967295;
-}
+// The length of a way that is closed.
+pub const CLOSED: u32 = u32::MAX;
 
 // Where all ways come from, three for each node; nothing where n is over 1024.
 pub fn sources(next: &[u16; 1024], prev: &[u16; 1024], n: usize, from: &mut [u16; 6150])
     ensures { Sourced n next.now prev.now from.old from.new }
 {
-    if 1024 < n {
-        return;
+    if n <= 1024 {
+        origins::lay(next, prev, n, from);
     }
-    origins::lay(next, prev, n, from);
 }
 
 // The charges of all requests; nothing where there are over 1024.
@@ -36,10 +29,9 @@ pub fn charges(trace: &[u8], charges: &mut [u32; 1024])
     ensures { Charged trace.now charges.old charges.new }
 {
     let n = trace::requests(trace);
-    if 1024 < n {
-        return;
+    if n <= 1024 {
+        paid::lay(trace, n, charges);
     }
-    paid::lay(trace, n, charges);
 }
 
 // The lengths of all ways, three for each node, with k slots laid; nothing where n is over 1024.
@@ -55,8 +47,15 @@ pub fn lengths(
 )
     ensures { Measured n fill k from.now charges.now flags.now worth.now len.old len.new }
 {
-    if 1024 < n {
-        return;
+    if n <= 1024 {
+        let network = Network {
+            n,
+            fill,
+            from,
+            charges,
+            flags,
+            worth,
+        };
+        network.lay(k, len);
     }
-    turns::lay(n, fill, k, from, charges, flags, worth, len);
 }

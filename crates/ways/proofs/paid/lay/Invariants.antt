@@ -1,10 +1,6 @@
 -- The loop lays one charge after the other. Assumes nothing.
-use Prim.Native.Nat.{◌-◌}
 use Rattle.ways.proofs.Steps.{Charging}
 use Rattle.ways.proofs.paid.lay.Given as goal
 
 abbrev pub invariant-loop-t : goal.invariant-loop-t
 invariant-loop-t l = Charging l.trace l.initial.charges l.charges l.n l.t
-
-abbrev pub decreases-loop-t : goal.decreases-loop-t
-decreases-loop-t l = l.n - l.t
