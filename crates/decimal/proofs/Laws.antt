@@ -15,7 +15,7 @@ use Rattle.decimal.specs.Decimal.{spell_by, decimal, digit, starts_digit, found,
 -- ---- spelling
 
 -- what stands behind the digits is carried along
-spell_append : (k x : ℕ) (r q : List ℕ) → spell_by k x r ++ q ≡ spell_by k x (r ++ q)
+pub spell_append : (k x : ℕ) (r q : List ℕ) → spell_by k x r ++ q ≡ spell_by k x (r ++ q)
 spell_append zero x r q = refl
 spell_append (suc k) x r q =
     split (ltb x 10)

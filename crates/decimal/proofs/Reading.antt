@@ -10,8 +10,8 @@ use lib.Dec.{eqb, ltb}
 use borrow.Author.Tests.{lt-ltb, le-ltb, ltb-true, ltb-false, eq-eqb, ne_eqb, eqb-true}
 use Rattle.pages.proofs.Laws.{split}
 use Rattle.decimal.specs.Decimal.{digit, starts_digit, digit_in, found, none, digits_from, numeral}
-use Rattle.decimal.specs.declared.Numeral.{Numeral}
-use Rattle.decimal.specs.declared.Numeral.TheVariants.{Is, Not}
+use Rattle.std.specs.Prelude.{Option, Some, None}
+use Rattle.decimal.specs.declared.Number.{Number}
 use Rattle.decimal.specs.Said.{Reads}
 use Rattle.decimal.proofs.Laws.{over, byte_back}
 
@@ -20,16 +20,6 @@ use Rattle.decimal.proofs.Laws.{over, byte_back}
 -- past the end there is none
 pub digit_past : (l : List ℕ) (at : ℕ) → length l ≤ at → 10 ≡ digit_in (drop at l)
 digit_past l at h = rw (drop_of_length-le l h)
-
--- nor at a byte that is none
-pub digit_low : (l : List ℕ) (at : ℕ) → at < length l → get_or l at 0 < 48 → 10 ≡ digit_in (drop at l)
-digit_low l at h b = rw (drop-cons l at 0 h, le-ltb 47 (get_or l at 0) (omega arith))
-
-pub digit_high : (l : List ℕ) (at : ℕ) → at < length l → 57 < get_or l at 0 → 10 ≡ digit_in (drop at l)
-digit_high l at h b = rw (drop-cons l at 0 h, lt-ltb 47 (get_or l at 0) (omega arith), le-ltb (get_or l at 0) 58 (omega arith))
-
-pub digit_there : (l : List ℕ) (at : ℕ) → at < length l → 48 ≤ get_or l at 0 → get_or l at 0 ≤ 57 → get_or l at 0 - 48 ≡ digit_in (drop at l)
-digit_there l at h a b = rw (drop-cons l at 0 h, lt-ltb 47 (get_or l at 0) (omega arith), lt-ltb (get_or l at 0) 58 (omega arith))
 
 -- below 10 a digit stands there
 digit_first : (l : List ℕ) → digit_in l < 10 → starts_digit l ≡ true
@@ -65,35 +55,30 @@ one_digit top x l at h =
     let s : digit (get_or l at 0) ≡ true = rw (drop-cons l at 0 i) at (digit_first (drop at l) h) in
     rw (drop-cons l at 0 i, s)
 
--- the digits from `at` up to `next` make `value`, and d is the one that follows
-pub record Reading (text : List ℕ) (at top value next d : ℕ) : Type 0 where
+-- the digits from `at` up to `next` make `value`
+pub record Reading (text : List ℕ) (at top value next : ℕ) : Type 0 where
   pub same : digits_from top 0 (drop at text) ≡ digits_from top value (drop next text)
-  pub first : d ≡ digit_in (drop next text)
   pub small : value ≤ top
   pub inside : next ≤ length text
 
-pub reading_begins : (text : List ℕ) (at top d : ℕ) → at ≤ length text → d ≡ digit_in (drop at text) → Reading text at top 0 at d
-reading_begins text at top d i e = record { same = refl; first = e; small = omega arith; inside = i }
-
-module _ (text : List ℕ) (at top value next d : ℕ) (r : Reading text at top value next d) where
-  pub reading_on : (e : ℕ) → d < 10 → 10 * value + d ≤ top → e ≡ digit_in (drop (next + 1) text)
-      → Reading text at top (10 * value + d) (next + 1) e
-  reading_on e h s q =
+module _ (text : List ℕ) (at top value next d : ℕ) (r : Reading text at top value next) (first : d ≡ digit_in (drop next text)) where
+  pub reading_on : d < 10 → 10 * value + d ≤ top → Reading text at top (10 * value + d) (next + 1)
+  reading_on h s =
       let n : next + 1 ≡ suc next = omega arith in
-      let k : digit_in (drop next text) < 10 = omega (arith, r.first) in
+      let k : digit_in (drop next text) < 10 = omega (arith, first) in
       let m : digits_from top value (drop next text) ≡ digits_from top (10 * value + d) (drop (suc next) text)
-      = rw (← r.first, le-ltb top (10 * value + d) s) at (one_digit top value text next k) in
-      record { same = r.same ∙ rw n m; first = q; small = s; inside = omega (arith, digit_inside text next k) }
+      = rw (← first, le-ltb top (10 * value + d) s) at (one_digit top value text next k) in
+      record { same = r.same ∙ rw n m; small = s; inside = omega (arith, digit_inside text next k) }
 
   pub reading_large : d < 10 → top < 10 * value + d → none ≡ digits_from top 0 (drop at text)
   reading_large h s =
-      let k : digit_in (drop next text) < 10 = omega (arith, r.first) in
+      let k : digit_in (drop next text) < 10 = omega (arith, first) in
       let m : digits_from top value (drop next text) ≡ none
-      = rw (← r.first, lt-ltb top (10 * value + d) s) at (one_digit top value text next k) in
+      = rw (← first, lt-ltb top (10 * value + d) s) at (one_digit top value text next k) in
       sym (r.same ∙ m)
 
   pub reading_ends : 10 ≤ d → found value (drop next text) ≡ digits_from top 0 (drop at text)
-  reading_ends h = sym (r.same ∙ over top value (drop next text) (digit_none (drop next text) (omega (arith, r.first))))
+  reading_ends h = sym (r.same ∙ over top value (drop next text) (digit_none (drop next text) (omega (arith, first))))
 
 -- ---- the number at a place
 
@@ -161,17 +146,17 @@ same_place : (text : List ℕ) (m n : ℕ) → m ≤ length text → n ≤ lengt
 same_place text m n a b e = omega (arith, ap length e, length-drop m text, length-drop n text)
 
 -- any two permitted answers coincide
-pub read_once : (text : List ℕ) (at top : ℕ) (a b : Numeral) → Reads text at top a → Reads text at top b → a ≡ b
-read_once text at top (Is x) (Is y) p q =
+pub read_once : (text : List ℕ) (at top : ℕ) (a b : Option Number) → Reads text at top a → Reads text at top b → a ≡ b
+read_once text at top (Some x) (Some y) p q =
     let e : found x.value (drop x.next text) ≡ found y.value (drop y.next text) = p.number ∙ sym q.number in
     let v : x.value ≡ y.value = cc in
     let d : drop x.next text ≡ drop y.next text = cc in
     let n : x.next ≡ y.next = same_place text x.next y.next p.inside q.inside d in
-    λ i. Is (record { value = v i; next = n i })
-read_once text at top (Is x) Not p q =
+    λ i. Some (record { value = v i; next = n i })
+read_once text at top (Some x) None p q =
     let e : found x.value (drop x.next text) ≡ none = p.number ∙ sym q.number in
     absurd (let z : ◌≡◌ {A = ℕ} 0 1 = cc in omega arith)
-read_once text at top Not (Is y) p q =
+read_once text at top None (Some y) p q =
     let e : none ≡ found y.value (drop y.next text) = p.number ∙ sym q.number in
     absurd (let z : ◌≡◌ {A = ℕ} 0 1 = cc in omega arith)
-read_once text at top Not Not p q = refl
+read_once text at top None None p q = refl

@@ -1,21 +1,19 @@
 -- What a load promises of the lent buffer: counts, since no contract can say what a file holds, and the bytes of a reader that says
--- which it has. Assumes nothing.
+-- which it has. None where the failure has been said. Assumes nothing.
 use Rattle.std.specs.Prelude.{List, ℕ, ◌≡◌, ◌≤◌, length, take}
-use Rattle.std.specs.Prelude.{Option}
+use Rattle.std.specs.Prelude.{Option, Some, None}
 use Rattle.std.specs.Io.KnownBytes.{Consumes}
-use Rattle.disk.specs.declared.Loaded.{Loaded}
-use Rattle.disk.specs.declared.Loaded.TheVariants.{Bytes, Failed}
 
 -- `&xs[..n]` is within xs and has n bytes: the same as IsPrefixLen of the kit's io, which this crate no longer uses
 abbrev pub IsPrefixLen : ℕ → List ℕ → Type 0
 IsPrefixLen n xs = (n ≤ length xs) × (n ≡ length (take n xs))
 
 -- the bytes that were loaded stand at the buffer's start, within it
-abbrev pub Holds : Loaded → List ℕ → Type 0
-Holds (Bytes n) buf = IsPrefixLen n buf
-Holds Failed buf = Unit {0}
+abbrev pub Holds : Option ℕ → List ℕ → Type 0
+Holds (Some n) buf = IsPrefixLen n buf
+Holds None buf = Unit {0}
 
 -- the bytes that were loaded are the first that the reader had, where it says which it has, and no others are gone from it
-abbrev pub Takes : Loaded → (old new : Option (List ℕ)) → List ℕ → Type 0
-Takes (Bytes n) old new buf = Consumes old new (take n buf)
-Takes Failed old new buf = Unit {0}
+abbrev pub Takes : Option ℕ → (old new : Option (List ℕ)) → List ℕ → Type 0
+Takes (Some n) old new buf = Consumes old new (take n buf)
+Takes None old new buf = Unit {0}

@@ -3,7 +3,7 @@ ghost use Rattle.std.specs.Prelude.{◌+◌, ◌≤◌, ◌≡◌, ◌++◌, len
 ghost use Rattle.disk.specs.Load.{IsPrefixLen};
 ghost use Rattle.disk.specs.Part.{suffix};
 
-use crate::fail;
+use crate::told;
 use std::fs::{OpenFile, OpenOptions};
 use std::io::Write;
 use std::rt::Files;
@@ -30,35 +30,18 @@ pub fn name(path: &[u8], to: &mut [u8]) -> usize
 
 // Makes the file with these bytes, or says why not and leaves none. A file that is there already
 // is left alone: it may be another program's, at work on the same file.
-pub fn make<R: Files, E: Print>(rt: &R, err: &E, path: &str, bytes: &[u8]) -> bool {
-    match OpenOptions::new()
+pub fn make<R: Files, E: Print>(rt: &R, err: &E, path: &str, bytes: &[u8]) -> Option<()> {
+    let made = OpenOptions::new()
         .write(true)
         .create_new(true)
-        .open(rt, path)
-    {
-        Ok(file) => filled(rt, err, path, file, bytes),
-        Err(error) => {
-            fail(err, path.as_bytes(), error);
-            false
-        }
-    }
-}
-
-// Writes the bytes to the file just made; where that fails, it says why and removes the file.
-fn filled<R: Files, E: Print>(
-    rt: &R,
-    err: &E,
-    path: &str,
-    mut file: R::File,
-    bytes: &[u8],
-) -> bool {
-    if let Err(error) = reached(&mut file, bytes) {
-        fail(err, path.as_bytes(), error);
-        drop(file);
+        .open(rt, path);
+    let mut file = told(err, path.as_bytes(), made)?;
+    let filled = told(err, path.as_bytes(), reached(&mut file, bytes));
+    drop(file);
+    if filled.is_none() {
         let _ = fs::remove_file(rt, path);
-        return false;
     }
-    true
+    filled
 }
 
 // Whether all the bytes were written and have reached the device.

@@ -21,11 +21,9 @@ fn of_fraction(a: u64, one: u64) -> Decimals
 {
     let mut parts: u64 = 0;
     let mut rest = a % one;
-    let mut n: u64 = 0;
-    while n < 16 {
+    for _ in 0..16u64 {
         parts = 10 * parts + 10 * rest / one;
         rest = 10 * rest % one;
-        n += 1;
     }
     Decimals {
         whole: a / one,

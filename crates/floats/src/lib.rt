@@ -17,10 +17,8 @@ pub struct Decimals {
 pub fn cut(x: f64) -> Decimals
     ensures { result ≡ cut_of x }
 {
-    if x >= 1.0 {
-        if x < 9007199254740992.0 {
-            return digits::of_bits(f64::to_bits(x));
-        }
+    if x >= 1.0 && x < 9007199254740992.0 {
+        return digits::of_bits(x.to_bits());
     }
     Decimals { whole: 0, parts: 0 }
 }

@@ -1,38 +1,53 @@
 // The one line that a program prints as its answer, laid from the start of a lent page. Each call answers how long the line is.
 #![tactic(auto)]
 
-ghost use Rattle.std.specs.Prelude.{◌≡◌, take};
+ghost use Rattle.std.specs.Prelude.{◌≤◌, ◌≡◌, ◌++◌, length, take};
+ghost use Rattle.model.specs.Refusals.{number_of, place_of};
+ghost use Rattle.pages.specs.Letters.{letters};
 ghost use Rattle.pages.specs.Pages.{Lies};
+ghost use Rattle.decimal.specs.Decimal.{decimal};
 ghost use Rattle.lines.specs.Lines.{least_line, accepted_line, refused_line};
 
 use model::Refusal;
+use pages::Page;
 
 // Room for every line: the longest is `refused N at P` with twenty digits each, 53 bytes.
 pub const ROOM: usize = 64;
 
 // `least C`.
+#[tactic(auto, unfolding(crate::specs::Lines::least_line))]
 pub fn least(cost: u64, line: &mut [u8; ROOM]) -> usize
     ensures { Lies (least_line cost) line.old result line.new }
 {
-    let word = pages::bytes(line, 0, b"least ");
-    let digits = decimal::lay(line, word, cost);
-    pages::byte(line, digits, b'\n')
+    worded(b"least ", cost, line)
 }
 
 // `accepted C`.
+#[tactic(auto, unfolding(crate::specs::Lines::accepted_line))]
 pub fn accepted(cost: u64, line: &mut [u8; ROOM]) -> usize
     ensures { Lies (accepted_line cost) line.old result line.new }
 {
-    let word = pages::bytes(line, 0, b"accepted ");
-    let digits = decimal::lay(line, word, cost);
-    pages::byte(line, digits, b'\n')
+    worded(b"accepted ", cost, line)
 }
 
 // `refused N at P`.
 pub fn refused(r: Refusal, line: &mut [u8; ROOM]) -> usize
-    ensures { Lies (refused_line r.number r.place) line.old result line.new }
+    ensures { Lies (refused_line (number_of r) (place_of r)) line.old result line.new }
 {
-    refusal(r.number, r.place, line)
+    refusal(r.number(), r.place(), line)
+}
+
+// `refused N at P` of two numbers.
+pub fn refusal(number: u64, place: u64, line: &mut [u8; ROOM]) -> usize
+    ensures { Lies (refused_line number place) line.old result line.new }
+{
+    let mut page = Page::new(line);
+    page.bytes(b"refused ");
+    decimal::lay(&mut page, number);
+    page.bytes(b" at ");
+    decimal::lay(&mut page, place);
+    page.byte(b'\n');
+    page.filled
 }
 
 // The line itself: the first bytes of the page, as many as a call answered.
@@ -42,13 +57,14 @@ pub fn shown(line: &[u8; ROOM], size: usize) -> &[u8]
     pages::first(line, size)
 }
 
-// `refused N at P` of two numbers: as parameters they are known to fit their type.
-fn refusal(number: u64, place: u64, line: &mut [u8; ROOM]) -> usize
-    ensures { Lies (refused_line number place) line.old result line.new }
+// A word and a cost.
+fn worded(word: &[u8], cost: u64, line: &mut [u8; ROOM]) -> usize
+    requires { length word.now ≤ 12 }
+    ensures { Lies (word.now ++ (decimal cost ++ letters "\n")) line.old result line.new }
 {
-    let word = pages::bytes(line, 0, b"refused ");
-    let first = decimal::lay(line, word, number);
-    let middle = pages::bytes(line, first, b" at ");
-    let second = decimal::lay(line, middle, place);
-    pages::byte(line, second, b'\n')
+    let mut answer = Page::new(line);
+    answer.bytes(word);
+    decimal::lay(&mut answer, cost);
+    answer.byte(b'\n');
+    answer.filled
 }

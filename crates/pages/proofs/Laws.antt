@@ -1,12 +1,12 @@
 -- Laws of a page that is filled from its start on.
 use mathlib.Core.Path.{◌≡◌, refl, sym, ◌∙◌, ap}
-use Prim.Native.Nat.{ℕ, zero, suc, ◌+◌, ◌-◌, ◌≤◌, ◌<◌, min}
+use Prim.Native.Nat.{ℕ, suc, ◌+◌, ◌-◌, ◌≤◌, ◌<◌, min}
 use native.Mathlib.Nat.{min-eq_left, min-eq_right}
 use native.Mathlib.Omega.{arith}
 use mathlib.Core.Bool.{Bool, true, false}
 use mathlib.Core.List.{List, [], ◌∷◌, ◌++◌}
-use lib.ListN.{length, get_or, set, take, drop, replicate, length-append, length-set, drop_of_length-le, take-append-drop}
-use lib.Seq.{sets, sets-eq, drop-cons, set_out, length-take-le, take_all, take_at}
+use lib.ListN.{length, set, take, drop, replicate, length-append, length-set, drop_of_length-le, take-append-drop}
+use lib.Seq.{sets, sets-eq, set_out, length-take-le, take_all, take_at}
 use lib.Dec.{ltb}
 use borrow.Author.Tests.{lt-ltb, le-ltb, ltb-true, ltb-false}
 use Rattle.pages.specs.Pages.{Page, filled, put, write, Lies, Cut}
@@ -45,27 +45,14 @@ page_once {r = r} {s} {new} {new'} a b =
     let n : new ≡ new' = cc in
     (m, n)
 
--- ---- loops: what is left to be written decides
-
--- one byte of s more
-pub byte_more : (next next' : ℕ) (l l' s : List ℕ) (i : ℕ) (p : Page) → i < length s → filled next' l' ≡ put (filled next l) (get_or s i 0)
-    → write (filled next l) (drop i s) ≡ p → write (filled next' l') (drop (i + 1) s) ≡ p
-byte_more next next' l l' s i p h e w =
-    let n : i + 1 ≡ suc i = omega arith in
-    let w' : write (put (filled next l) (get_or s i 0)) (drop (suc i) s) ≡ p = rw (drop-cons s i 0 h) at w in
-    rw n (ap (λ q. write q (drop (suc i) s)) e ∙ w')
+-- ---- the loop: what is left to be written decides
 
 -- the same byte once more
-pub repeat_more : (next next' : ℕ) (l l' : List ℕ) (left b : ℕ) (p : Page) → 0 < left → filled next' l' ≡ put (filled next l) b
-    → write (filled next l) (replicate left b) ≡ p → write (filled next' l') (replicate (left - 1) b) ≡ p
-repeat_more next next' l l' zero b p h e w = absurd (omega arith)
-repeat_more next next' l l' (suc left) b p h e w =
-    let n : suc left - 1 ≡ left = omega arith in
-    rw n (ap (λ q. write q (replicate left b)) e ∙ w)
-
-pub repeat_done : (next : ℕ) (l : List ℕ) (left b : ℕ) (p : Page) → left ≤ 0 → write (filled next l) (replicate left b) ≡ p → filled next l ≡ p
-repeat_done next l zero b p h w = w
-repeat_done next l (suc left) b p h w = absurd (omega arith)
+pub repeat_more : (p p' q : Page) (count n b : ℕ) → n < count → p' ≡ put p b → write p (replicate (count - n) b) ≡ q
+    → write p' (replicate (count - (n + 1)) b) ≡ q
+repeat_more p p' q count n b h e w =
+    let m : count - n ≡ suc (count - (n + 1)) = omega arith in
+    ap (λ o. write o (replicate (count - (n + 1)) b)) e ∙ rw m at w
 
 -- ---- a page that has room
 

@@ -1,18 +1,16 @@
 -- Each sign by its byte, and what a sign adds to the counts.
-use mathlib.Core.Path.{◌≡◌, refl, ◌∙◌, ap}
-use Prim.Native.Nat.{ℕ, ◌+◌, ◌-◌, ◌≤◌, ◌<◌, min}
+use mathlib.Core.Path.{◌≡◌, ◌∙◌, ap}
+use Prim.Native.Nat.{ℕ, ◌+◌, ◌-◌, ◌≤◌, ◌<◌}
 use native.Mathlib.Nat.{min-le_right}
 use native.Mathlib.Omega.{arith}
-use mathlib.Core.List.{List, [], ◌∷◌, ◌++◌}
+use mathlib.Core.List.{[], ◌∷◌, ◌++◌}
 use lib.ListN.{length, replicate}
 use lib.Dec.{eqb, ltb}
 use borrow.Author.Tests.{eq-eqb, ne_eqb, lt-ltb, le-ltb}
 use Rattle.decimal.specs.Decimal.{decimal}
-use Rattle.pages.specs.Pages.{filled, write}
+use Rattle.pages.specs.Pages.{Page, write}
 use Rattle.pages.proofs.Laws.{split, write_join}
 use Rattle.sentences.specs.Spelled.{State, quiet, choice_of, bar_of, end_of, run_of, column_of, zeros_of, shown_of, sign_of}
-use Rattle.sentences.specs.Signed.{state_of, Signed}
-use Rattle.sentences.specs.declared.Pen.{Pen}
 
 module _ (s : State) (b next n : ℕ) where
   pub sign_choice : b ≡ 91 → sign_of s b next n ≡ choice_of s n
@@ -63,34 +61,9 @@ module _ (s : State) (b next n : ℕ) where
 -- ---- a number with what stands in front of it
 
 -- one byte so many times, then the digits
-pub led_page : (old mid new : List ℕ) (start from at n lead k count : ℕ) → count ≡ k
-    → filled from mid ≡ write (filled start old) (replicate count lead) → filled at new ≡ write (filled from mid) (decimal n)
-    → filled at new ≡ write (filled start old) (replicate k lead ++ decimal n)
-led_page old mid new start from at n lead k count e h1 h2 =
-    h2
-    ∙ (ap (λ p. write p (decimal n)) h1
-    ∙ (write_join (filled start old) (replicate count lead) (decimal n)
-    ∙ ap (λ x. write (filled start old) (replicate x lead ++ decimal n)) e))
-
-module _ (pen : Pen) (n : ℕ) (old mid new : List ℕ) (k count from at : ℕ) (hk : k ≡ length (decimal n))
-    (laid : filled at new ≡ write (filled from mid) (decimal n)) where
-  pub signed_column : (d over : ℕ) → count ≡ pen.run + 1 - (k + pen.over) → filled from mid ≡ write (filled pen.at old) (replicate count 32)
-      → d ≡ k + pen.over - (pen.run + 1) → over ≡ min d 256
-      → Signed (column_of (state_of pen) n) old pen.at (record { at = at; taken = pen.taken + 1; run = 0; over = over; hidden = 0 }) new
-  signed_column d over hs h hd ho =
-      let es : count ≡ pen.run + 1 - (length (decimal n) + pen.over) = hs ∙ ap (λ x. pen.run + 1 - (x + pen.over)) hk in
-      let ed : over ≡ min (length (decimal n) + pen.over - (pen.run + 1)) 256
-      = ho ∙ ap (λ x. min x 256) (hd ∙ ap (λ x. x + pen.over - (pen.run + 1)) hk) in
-      record {
-        state = ap (λ x. record { taken = pen.taken + 1; run = 0; over = x; hidden = 0 }) ed;
-        page = led_page old mid new pen.at from at n 32 _ count es h laid;
-      }
-
-  pub signed_zeros : count ≡ pen.run + 1 - k → filled from mid ≡ write (filled pen.at old) (replicate count 48)
-      → Signed (zeros_of (state_of pen) n) old pen.at (record { at = at; taken = pen.taken + 1; run = 0; over = pen.over; hidden = 0 }) new
-  signed_zeros hs h =
-      let es : count ≡ pen.run + 1 - length (decimal n) = hs ∙ ap (λ x. pen.run + 1 - x) hk in
-      record { state = refl; page = led_page old mid new pen.at from at n 48 _ count es h laid }
+pub led_page : (p q r : Page) (n lead k : ℕ) → q ≡ write p (replicate k lead) → r ≡ write q (decimal n)
+    → r ≡ write p (replicate k lead ++ decimal n)
+led_page p q r n lead k h1 h2 = h2 ∙ (ap (λ o. write o (decimal n)) h1 ∙ write_join p (replicate k lead) (decimal n))
 
 -- ---- a sign adds at most one to each count
 

@@ -1,25 +1,28 @@
 // Sentences, laid into a lent page: a text with its numbers, and each refusal in words.
 #![tactic(auto)]
 
-ghost use Rattle.std.specs.Prelude.{◌≡◌, ◌-◌, min, get_or, take};
-ghost use Rattle.pages.specs.Pages.{Lies, Cut};
-ghost use Rattle.sentences.specs.Spelled.{column_of, zeros_of, shown_of, sign_of, next_word, spelled};
+ghost use Rattle.std.specs.Prelude.{◌≡◌, ◌++◌, replicate, take};
+ghost use Rattle.model.specs.Refusals.{number_of, place_of};
+ghost use Rattle.pages.specs.Pages.{Lies, Cut, write};
+ghost use Rattle.pages.specs.Lent.{laid};
+ghost use Rattle.decimal.specs.Decimal.{decimal};
+ghost use Rattle.sentences.specs.Spelled.{column_of, zeros_of, shown_of, sign_of, spelled};
 ghost use Rattle.sentences.specs.Sentences.{crowded_page, refusal_page};
-ghost use Rattle.sentences.specs.Signed.{state_of, Small, Signed, Laid};
+ghost use Rattle.sentences.specs.Signed.{state_of, Small, Signed, led_of, Laid};
 
 use model::Refusal;
+use pages::Page;
 
 // Room for every answer but a schedule, which is laid line by line.
 pub const ROOM: usize = 256;
 
-// How far a page is laid and a text's signs are read.
+// How far a text's signs are read.
 #[derive(Clone, Copy)]
 struct Pen {
-    // How far the page is filled.
-    at: usize,
     // How many numbers are taken.
     taken: usize,
-    // How many signs of a run stand just before, and how many columns numbers took more than their runs, at most 256.
+    // How many signs of a run stand just before, and how many columns numbers took more than their runs, at most 256: without a
+    // limit a long enough text would make it wrap.
     run: usize,
     over: usize,
     // How many words come before the one that is chosen.
@@ -40,29 +43,24 @@ pub fn lay(text: &[u8], numbers: &[u64], page: &mut [u8; ROOM]) -> usize
 pub fn fill(text: &[u8], numbers: &[u64], page: &mut [u8]) -> usize
     ensures { Cut (spelled text.now numbers.now) page.old result page.new }
 {
-    let mut pen = Pen {
-        at: 0,
-        taken: 0,
-        run: 0,
-        over: 0,
-        hidden: 0,
-    };
-    let mut i: usize = 0;
-    while i < text.len() {
-        let next = byte_at(text, i + 1);
-        let n = number_at(numbers, pen.taken);
-        pen = sign(pen, text[i], next, n, page);
-        i += 1;
-    }
-    pen.at
+    let mut page = Page::new(page);
+    write_text(text, numbers, &mut page);
+    page.filled
 }
 
 // `refused N at P: ` and the sentence for N, from 1 on. The slots are the trace's, which the sentence of 15 names.
 pub fn refusal(r: Refusal, slots: u64, page: &mut [u8; ROOM]) -> usize
-    ensures { Lies (refusal_page r.number r.place slots) page.old result page.new }
+    ensures { Lies (refusal_page (number_of r) (place_of r) slots) page.old result page.new }
 {
-    if r.number == 15 {
-        return crowded(r.place, slots, page);
+    sentence(r.number(), r.place(), slots, page)
+}
+
+// The same of two numbers.
+pub fn sentence(number: u64, place: u64, slots: u64, page: &mut [u8; ROOM]) -> usize
+    ensures { Lies (refusal_page number place slots) page.old result page.new }
+{
+    if number == 15 {
+        return crowded(place, slots, page);
     }
     lay(
         b"refused @ at @: [|\
@@ -86,7 +84,7 @@ pub fn refusal(r: Refusal, slots: u64, page: &mut [u8; ROOM]) -> usize
         the lent buffer is shorter than 16 + 5n|\
         the least or the measured cost is above 2,048,000,000|\
         the measured cost is below the least]\n",
-        &[r.number, r.place, r.number, r.place],
+        &[number, place, number, place],
         page,
     )
 }
@@ -116,136 +114,91 @@ fn crowded(gap: u64, slots: u64, page: &mut [u8; ROOM]) -> usize
     )
 }
 
-// One byte of a text, before byte `next`.
-fn sign(pen: Pen, b: u8, next: u8, n: u64, page: &mut [u8]) -> Pen
-    requires { Small (state_of pen) }
-    ensures { Signed (sign_of (state_of pen) b next n) page.old pen.at result page.new }
+// The text on a page that is filled so far.
+fn write_text(text: &[u8], numbers: &[u64], page: &mut Page)
+    ensures same { page.new.bytes.ghost_name ≡ page.old.bytes.ghost_name }
+    ensures page { laid page.new ≡ write (laid page.old) (spelled text.now numbers.now) }
 {
-    let mut to = pen;
-    if b == b'[' {
-        to.taken = pen.taken + 1;
-        to.hidden = n;
-        return to;
-    }
-    if b == b'|' {
-        to.hidden = next_word(pen.hidden);
-        return to;
-    }
-    if b == b']' {
-        to.hidden = 0;
-        return to;
-    }
-    if 0 < pen.hidden {
-        return pen;
-    }
-    visible(pen, b, next, n, page)
-}
-
-// One that no choice leaves out.
-fn visible(pen: Pen, b: u8, next: u8, n: u64, page: &mut [u8]) -> Pen
-    requires { Small (state_of pen) }
-    ensures { Signed (shown_of (state_of pen) b next n) page.old pen.at result page.new }
-{
-    let mut to = pen;
-    if b == b'@' {
-        if next == b'@' {
-            to.run = pen.run + 1;
-            return to;
-        }
-        return column(pen, n, page);
-    }
-    if b == b'$' {
-        if next == b'$' {
-            to.run = pen.run + 1;
-            return to;
-        }
-        return zeros(pen, n, page);
-    }
-    to.at = pages::byte(page, pen.at, b);
-    to
-}
-
-// The last @ of a run: its number.
-fn column(pen: Pen, n: u64, page: &mut [u8]) -> Pen
-    requires { Small (state_of pen) }
-    ensures { Signed (column_of (state_of pen) n) page.old pen.at result page.new }
-{
-    let width = pen.run + 1;
-    let needed = decimal::count(n) + pen.over;
-    let from = pages::repeat(page, pen.at, less(width, needed), b' ');
-    let at = decimal::lay(page, from, n);
-    Pen {
-        at,
-        taken: pen.taken + 1,
+    let mut pen = Pen {
+        taken: 0,
         run: 0,
-        over: at_most_256(less(needed, width)),
+        over: 0,
         hidden: 0,
+    };
+    for (i, &b) in text.iter().enumerate() {
+        let next = text.get(i + 1).copied().unwrap_or(0);
+        let n = numbers.get(pen.taken).copied().unwrap_or(0);
+        pen.sign(b, next, n, page);
     }
 }
 
-// The last $ of a run: its number.
-fn zeros(pen: Pen, n: u64, page: &mut [u8]) -> Pen
-    requires { Small (state_of pen) }
-    ensures { Signed (zeros_of (state_of pen) n) page.old pen.at result page.new }
-{
-    let width = pen.run + 1;
-    let from = pages::repeat(page, pen.at, less(width, decimal::count(n)), b'0');
-    let at = decimal::lay(page, from, n);
-    Pen {
-        at,
-        taken: pen.taken + 1,
-        run: 0,
-        over: pen.over,
-        hidden: 0,
+impl Pen {
+    // One byte of a text, before byte `next`.
+    #[tactic(auto, unfolding(crate::specs::Spelled::sign_of))]
+    fn sign(&mut self, b: u8, next: u8, n: u64, page: &mut Page)
+        requires { Small (state_of self.old) }
+        ensures same { page.new.bytes.ghost_name ≡ page.old.bytes.ghost_name }
+        ensures signed { Signed (sign_of (state_of self.old) b next n) (laid page.old) self.new (laid page.new) }
+    {
+        match b {
+            b'[' => {
+                self.taken += 1;
+                self.hidden = n;
+            }
+            b'|' => self.hidden = self.hidden.wrapping_sub(1),
+            b']' => self.hidden = 0,
+            _ if 0 < self.hidden => {}
+            _ => self.visible(b, next, n, page),
+        }
     }
-}
 
-// How many words come before the chosen one, a word later.
-fn next_word(hidden: u64) -> u64
-    ensures { result ≡ next_word hidden }
-{
-    if hidden == 0 {
-        return u64::MAX;
+    // One that no choice leaves out.
+    #[tactic(auto, unfolding(crate::specs::Spelled::shown_of))]
+    fn visible(&mut self, b: u8, next: u8, n: u64, page: &mut Page)
+        requires { Small (state_of self.old) }
+        ensures same { page.new.bytes.ghost_name ≡ page.old.bytes.ghost_name }
+        ensures signed { Signed (shown_of (state_of self.old) b next n) (laid page.old) self.new (laid page.new) }
+    {
+        match b {
+            b'@' | b'$' if next == b => self.run += 1,
+            b'@' => self.column(n, page),
+            b'$' => self.zeros(n, page),
+            _ => page.byte(b),
+        }
     }
-    hidden - 1
-}
 
-// a less b, or 0.
-fn less(a: usize, b: usize) -> usize
-    ensures { result ≡ a - b }
-{
-    if b <= a {
-        return a - b;
+    // The last @ of a run: its number.
+    fn column(&mut self, n: u64, page: &mut Page)
+        requires { Small (state_of self.old) }
+        ensures same { page.new.bytes.ghost_name ≡ page.old.bytes.ghost_name }
+        ensures signed { Signed (column_of (state_of self.old) n) (laid page.old) self.new (laid page.new) }
+    {
+        let width = self.run + 1;
+        let needed = decimal::count(n) + self.over;
+        self.led(width.saturating_sub(needed), b' ', n, page);
+        self.over = needed.saturating_sub(width).min(256);
     }
-    0
-}
 
-// Without a limit a long enough text would make it wrap.
-fn at_most_256(x: usize) -> usize
-    ensures { result ≡ min x 256 }
-{
-    if x <= 256 {
-        return x;
+    // The last $ of a run: its number.
+    fn zeros(&mut self, n: u64, page: &mut Page)
+        requires { Small (state_of self.old) }
+        ensures same { page.new.bytes.ghost_name ≡ page.old.bytes.ghost_name }
+        ensures signed { Signed (zeros_of (state_of self.old) n) (laid page.old) self.new (laid page.new) }
+    {
+        let width = self.run + 1;
+        self.led(width.saturating_sub(decimal::count(n)), b'0', n, page);
     }
-    256
-}
 
-// Byte i, past the end 0.
-fn byte_at(s: &[u8], i: usize) -> u8
-    ensures { result ≡ get_or s.now i 0 }
-{
-    if i < s.len() {
-        return s[i];
+    // A number that ends a run, with as many of one byte in front.
+    fn led(&mut self, count: usize, lead: u8, n: u64, page: &mut Page)
+        requires { Small (state_of self.old) }
+        ensures same { page.new.bytes.ghost_name ≡ page.old.bytes.ghost_name }
+        ensures signed { Signed (led_of (state_of self.old) count lead n) (laid page.old) self.new (laid page.new) }
+    {
+        page.repeat(count, lead);
+        decimal::lay(page, n);
+        self.taken += 1;
+        self.run = 0;
+        self.hidden = 0;
     }
-    0
-}
-
-// Number i, past the end 0.
-fn number_at(numbers: &[u64], i: usize) -> u64
-    ensures { result ≡ get_or numbers.now i 0 }
-{
-    if i < numbers.len() {
-        return numbers[i];
-    }
-    0
 }

@@ -5,7 +5,7 @@ use Rattle.decimal.proofs.Reading.{Reading}
 use Rattle.decimal.proofs.long.Given as goal
 
 abbrev pub invariant-loop-d : goal.invariant-loop-d
-invariant-loop-d l = Reading l.text l.at l.top l.value l.next l.d
+invariant-loop-d l = Reading l.text l.at l.top l.value l.next
 
 abbrev pub decreases-loop-d : goal.decreases-loop-d
 decreases-loop-d l = length l.text - l.next

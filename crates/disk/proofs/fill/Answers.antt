@@ -23,6 +23,9 @@ loop-done-preserved g c =
     let from = c.loop-done.done in
     let room = length c.loop-done.buf - from in
     let within = c.loop-done.invariant.1 in
-    let part = slice_range-put_mid from room c.in-Ok.more c.loop-done.buf c.read.new.buf within c.in-Ok.ensures.bound.0 in
-    let joined = take_split from (from + c.in-Ok.more) c.loop-done.buf (put_mid from room c.loop-done.buf c.read.new.buf) (omega arith) (take-put_mid_below _ _ _ _ _ (le_refl _) within) in
-    (search rules, search rules, subst (Consumes _ _) (ap (λ l. take from c.loop-done.buf ++ l) (sym part) ∙ joined) (Consumes-trans _ _ _ _ _ c.loop-done.invariant.2 c.in-Ok.ensures.bytes.0))
+    let more = c.in_ok-more.more in
+    let bound = rw c.in_ok-more.ensures at c.read.ensures.bound in
+    let bytes = rw c.in_ok-more.ensures at c.read.ensures.bytes in
+    let part = slice_range-put_mid from room more c.loop-done.buf c.read.new.buf within bound.0 in
+    let joined = take_split from (from + more) c.loop-done.buf (put_mid from room c.loop-done.buf c.read.new.buf) (omega arith) (take-put_mid_below _ _ _ _ _ (le_refl _) within) in
+    (search rules, search rules, subst (Consumes _ _) (ap (λ l. take from c.loop-done.buf ++ l) (sym part) ∙ joined) (Consumes-trans _ _ _ _ _ c.loop-done.invariant.2 bytes.0))

@@ -11,12 +11,14 @@ pub returns : goal.returns
 unfolding refused_line
 returns c =
     let a = c.args in
-    five_runs a.line.now _ _ a.number a.place (letters "refused ") (letters " at ") (omega arith) (omega arith)
-    (omega arith) (omega arith) (omega arith)
-    (c.byte.ensures
+    five_runs a.line.now _ _ a.number a.place (letters "refused ") (letters " at ")
+    (omega arith) (omega arith) (omega arith) (omega arith) (omega arith)
+    (c.byte.ensures.page
     ∙ ap (λ p. put p 10)
-    (c.lay-second.ensures
+    (c.lay-2.ensures.page
     ∙ ap (λ p. write p (decimal a.place))
-    (c.bytes-middle.ensures
+    (c.bytes-2.ensures.page
     ∙ ap (λ p. write p (letters " at "))
-    (c.lay-first.ensures ∙ ap (λ p. write p (decimal a.number)) c.bytes-word.ensures))))
+    (c.lay.ensures.page
+    ∙ ap (λ p. write p (decimal a.number))
+    (c.bytes.ensures.page ∙ ap (λ p. write p (letters "refused ")) c.new-page.ensures.page)))))
