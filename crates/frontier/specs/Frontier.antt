@@ -1,6 +1,7 @@
 -- What a search keeps of the nodes that it has labelled: a stack of those that it reached at the distance where it stands and has
 -- still to look at, and a list of those that wait further off. Nodes are numbers below 2050. Assumes nothing.
 use Rattle.std.specs.Prelude.{ℕ, ◌+◌, min, cond, ◌&&◌, List, [], ◌∷◌, ◌++◌, length, get_or, set, drop, ltb, eqb}
+use Rattle.frontier.specs.declared.Frontier.{Frontier}
 
 -- a distance that says unreached
 abbrev pub far : ℕ
@@ -18,6 +19,10 @@ pub record Desk : Type 0 where
 -- a desk of these parts
 abbrev pub desk : (dist hop stack list : List ℕ) → (top waiting : ℕ) → Desk
 desk dist hop stack list top waiting = record { dist = dist; hop = hop; stack = stack; list = list; top = top; waiting = waiting }
+
+-- what a search's struct holds
+abbrev pub desk_of : Frontier → Desk
+desk_of f = desk f.dist f.hop f.stack f.list f.top f.waiting
 
 -- v is put on the stack, at distance e by way of u
 abbrev pub pushed : Desk → (u v e : ℕ) → Desk

@@ -2,148 +2,118 @@
 // and a list of those that wait further off.
 #![tactic(auto)]
 
-mod passes;
+ghost use Rattle.std.specs.Prelude.{◌≡◌, ◌≤◌, length, get_or, take};
+ghost use Rattle.frontier.specs.Frontier.{desk_of, offered, beyond, nearest, those, written};
 
-ghost use Rattle.std.specs.Prelude.{◌≡◌, ◌<◌, min, length, take};
-ghost use Rattle.frontier.specs.Frontier.{desk, offered, beyond, nearest, those, written};
-
-// The nodes of a search.
-#[derive(Clone, Copy)]
-pub struct Nodes {
-    pub count: usize,
+// How far off each node is, where the way goes on from it, and the two lists with how many nodes stand in each. The fields may hold
+// anything: what is promised of an offer and of refilling is promised of all that they hold. The two numbers stand first, since the
+// compiler then sees that no store into a list changes them, and keeps them in registers.
+#[derive(Drop)]
+pub struct Frontier {
+    pub top: usize,
+    pub waiting: usize,
+    pub dist: [u32; Frontier::MAX],
+    pub hop: [u16; Frontier::MAX],
+    pub stack: [u16; Frontier::MAX],
+    pub list: [u16; Frontier::MAX],
 }
 
-impl Nodes {
+// The distance of node v: 0 for what is no node.
+fn distance(dist: &[u32], v: u16) -> u64
+    ensures { result ≡ get_or dist.now v 0 }
+{
+    u64::from(dist.get(usize::from(v)).copied().unwrap_or(0))
+}
+
+// Drops the nodes that are no further off than `current` from those that wait, and says how many there are then, and the least of their
+// distances.
+fn sift(dist: &[u32], list: &mut [u16; Frontier::MAX], waiting: usize, current: u64) -> (usize, u64)
+    ensures list_after { list.new ≡ written (beyond dist.now current (take waiting list.old)) list.old }
+    ensures waiting_value { result.0 ≡ length (beyond dist.now current (take waiting list.old)) }
+    ensures waiting_within { result.0 ≤ 2050 }
+    ensures low_value { result.1 ≡ nearest dist.now (beyond dist.now current (take waiting list.old)) }
+{
+    let mut low = u64::from(Frontier::FAR);
+    let mut kept = 0;
+    for i in 0..waiting.min(Frontier::MAX) {
+        let v = list[i];
+        let d = distance(dist, v);
+        if current < d {
+            list[kept] = v;
+            kept += 1;
+            low = low.min(d);
+        }
+    }
+    (kept, low)
+}
+
+// Puts the nodes of a list that are just so far off on the empty stack, and says how many there are.
+fn gather(dist: &[u32], list: &[u16], low: u64, stack: &mut [u16; Frontier::MAX]) -> usize
+    requires { length list.now ≤ 2050 }
+    ensures stack_after { stack.new ≡ written (those dist.now low list.now) stack.old }
+    ensures value { result ≡ length (those dist.now low list.now) }
+{
+    let mut top = 0;
+    for v in list {
+        if distance(dist, *v) == low && usize::from(*v) < Frontier::MAX {
+            stack[top] = *v;
+            top += 1;
+        }
+    }
+    top
+}
+
+impl Frontier {
+    // How many nodes there can be.
     pub const MAX: usize = 2050;
 
     // The distance of an unreached node: its bytes are equal, so that making an array of it is one fill of memory.
     pub const FAR: u32 = 4294967295;
-}
 
-// How many nodes stand on the stack and in the list.
-#[derive(Clone, Copy)]
-pub struct Ends {
-    pub top: usize,
-    pub waiting: usize,
-}
-
-// What sifting leaves: how many still wait, and the least of their distances.
-#[derive(Clone, Copy)]
-pub struct Sifted {
-    pub waiting: usize,
-    pub low: u64,
-}
-
-// What refilling leaves: how many stand on the stack, how many wait, and the distance of those on the stack.
-#[derive(Clone, Copy)]
-pub struct Refilled {
-    pub top: usize,
-    pub waiting: usize,
-    pub low: u64,
-}
-
-// A distance among those that are compared: that it is below 2^32 is said by no array.
-fn wide(x: u32) -> u64
-    ensures { (result ≡ x) × (result < 4294967296) }
-{
-    x as u64
-}
-
-// Offers node v the distance e by way of u. Most offers change nothing, so that is tested first.
-#[tactic(auto, unfolding(crate::specs::Frontier::offered))]
-pub fn offer(
-    dist: &mut [u32; 2050],
-    hop: &mut [u16; 2050],
-    stack: &mut [u16; 2050],
-    list: &mut [u16; 2050],
-    ends: Ends,
-    u: u16,
-    v: u16,
-    e: u64,
-    current: u64,
-) -> Ends
-    ensures { desk dist.new hop.new stack.new list.new result.top result.waiting ≡ offered (desk dist.old hop.old stack.old list.old ends.top ends.waiting) u v e current }
-{
-    let at = v as usize;
-    if at >= Nodes::MAX {
-        return ends;
-    }
-    let old = wide(dist[at]);
-    if e >= old {
-        return ends;
-    }
-    let mut top = ends.top;
-    let mut waiting = ends.waiting;
-    if e == current {
-        if top >= Nodes::MAX {
-            return ends;
+    // Offers node v the distance e by way of u. Most offers change nothing, so that is tested first.
+    #[tactic(auto, unfolding(crate::specs::Frontier::offered))]
+    pub fn offer(&mut self, u: u16, v: u16, e: u64, current: u64)
+        ensures { desk_of self.new ≡ offered (desk_of self.old) u v e current }
+    {
+        let at = usize::from(v);
+        if at >= Frontier::MAX {
+            return;
         }
-        stack[top] = v;
-        top += 1;
-    } else if old == Nodes::FAR as u64 {
-        if waiting >= Nodes::MAX {
-            return ends;
+        let old = u64::from(self.dist[at]);
+        if e >= old {
+            return;
         }
-        list[waiting] = v;
-        waiting += 1;
+        if e == current {
+            if self.top >= Frontier::MAX {
+                return;
+            }
+            self.stack[self.top] = v;
+            self.top += 1;
+        } else if old == u64::from(Frontier::FAR) {
+            if self.waiting >= Frontier::MAX {
+                return;
+            }
+            self.list[self.waiting] = v;
+            self.waiting += 1;
+        }
+        self.dist[at] = e as u32;
+        self.hop[at] = u;
     }
-    dist[at] = e as u32;
-    hop[at] = u;
-    Ends { top, waiting }
-}
 
-// As many places as an array has.
-fn cut(n: usize) -> usize
-    ensures { result ≡ min n 2050 }
-{
-    if n < Nodes::MAX {
-        return n;
-    }
-    Nodes::MAX
-}
-
-// Drops from the list the nodes that are no further off than `current`, and finds the least distance of the others.
-fn sift(dist: &[u32; 2050], list: &mut [u16; 2050], waiting: usize, current: u64) -> Sifted
-    ensures list_after { list.new ≡ written (beyond dist.now current (take waiting list.old)) list.old }
-    ensures waiting_value { result.waiting ≡ length (beyond dist.now current (take waiting list.old)) }
-    ensures low_value { result.low ≡ nearest dist.now (beyond dist.now current (take waiting list.old)) }
-{
-    passes::keep(dist, list, cut(waiting), current)
-}
-
-// Puts every listed node at the distance `low` on the empty stack, and says how many there are.
-fn take(
-    dist: &[u32; 2050],
-    list: &[u16; 2050],
-    stack: &mut [u16; 2050],
-    waiting: usize,
-    low: u64,
-) -> usize
-    ensures stack_after { stack.new ≡ written (those dist.now low (take waiting list.now)) stack.old }
-    ensures value { result ≡ length (those dist.now low (take waiting list.now)) }
-{
-    passes::gather(dist, list, stack, cut(waiting), low)
-}
-
-// Drops from the list what is no further off than `current`, and puts the nearest of the others on the empty stack.
-pub fn refill(
-    dist: &[u32; 2050],
-    stack: &mut [u16; 2050],
-    list: &mut [u16; 2050],
-    waiting: usize,
-    current: u64,
-) -> Refilled
-    ensures list_after { list.new ≡ written (beyond dist.now current (take waiting list.old)) list.old }
-    ensures waiting_value { result.waiting ≡ length (beyond dist.now current (take waiting list.old)) }
-    ensures low_value { result.low ≡ nearest dist.now (beyond dist.now current (take waiting list.old)) }
-    ensures stack_after { stack.new ≡ written (those dist.now result.low (take result.waiting list.new)) stack.old }
-    ensures top_value { result.top ≡ length (those dist.now result.low (take result.waiting list.new)) }
-{
-    let sifted = sift(dist, list, waiting, current);
-    let top = take(dist, list, stack, sifted.waiting, sifted.low);
-    Refilled {
-        top,
-        waiting: sifted.waiting,
-        low: sifted.low,
+    // Drops from the list what is no further off than `current`, puts the nearest of the others on the empty stack, and answers how far
+    // off those are.
+    pub fn refill(&mut self, current: u64) -> u64
+        ensures list_after { self.new.list ≡ written (beyond self.old.dist current (take self.old.waiting self.old.list)) self.old.list }
+        ensures waiting_value { self.new.waiting ≡ length (beyond self.old.dist current (take self.old.waiting self.old.list)) }
+        ensures low_value { result ≡ nearest self.old.dist (beyond self.old.dist current (take self.old.waiting self.old.list)) }
+        ensures stack_after { self.new.stack ≡ written (those self.old.dist result (take self.new.waiting self.new.list)) self.old.stack }
+        ensures top_value { self.new.top ≡ length (those self.old.dist result (take self.new.waiting self.new.list)) }
+        ensures distances_kept { self.new.dist ≡ self.old.dist }
+        ensures hops_kept { self.new.hop ≡ self.old.hop }
+    {
+        let (waiting, low) = sift(&self.dist, &mut self.list, self.waiting, current);
+        self.waiting = waiting;
+        self.top = gather(&self.dist, &self.list[..waiting], low, &mut self.stack);
+        low
     }
 }

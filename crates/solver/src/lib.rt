@@ -5,6 +5,8 @@ ghost use Rattle.solver.specs.Solve.{Promise};
 
 use model::Refusal;
 use opening::begin;
+use output::write_least;
+use slots::{Lists, Slots};
 use trace::Checked;
 
 mod output;
@@ -25,17 +27,26 @@ pub fn solve(trace: &[u8], buffer: &mut [u8]) -> Solved
 {
     let mut from = [1u16; 6150];
     let mut charges = [1u32; 1024];
-    let mut worth = [1u32; 2050];
-    match begin(trace, &mut from, &mut charges, &mut worth) {
+    let mut slots = Slots {
+        worth: [0; 2050],
+        flags: [0; 1024],
+    };
+    match begin(trace, &mut from, &mut charges, &mut slots.worth) {
         Checked::Refused(r) => Solved::Refused(r),
-        Checked::Sound(h) => {
-            if buffer.len() < 16 + 5 * h.requests {
+        Checked::Sound(header) => {
+            if buffer.len() < 16 + 5 * header.requests {
                 return Solved::Refused(Refusal {
                     number: 19,
                     place: 0,
                 });
             }
-            output::write_least(trace, h, &from, &charges, &mut worth, buffer)
+            let lists = Lists {
+                trace,
+                header,
+                from: &from,
+                charges: &charges,
+            };
+            write_least(&lists, &mut slots, buffer)
         }
     }
 }

@@ -1,110 +1,62 @@
 // The search for the shortest ways back from the last point, until point 0 is reached. Nearly all ways are of length 0, so most
 // nodes are reached at the distance where the search stands: those go on a stack. The others wait in a list, which is looked
 // through for its least distance only when the stack is empty.
-ghost use Rattle.std.specs.Prelude.{◌≡◌, suc, ◌*◌, ◌-◌, ◌≤◌, ◌<◌, length, replicate};
-ghost use Rattle.frontier.specs.Frontier.{far};
+ghost use Rattle.std.specs.Prelude.{◌≡◌, suc, ◌*◌, ◌-◌, ◌<◌, replicate};
+ghost use Rattle.frontier.specs.Frontier.{far, desk_of};
 ghost use Rattle.steps.specs.Search.{ways_by, Runs, Graph, Finds};
 
-use frontier::{Ends, Nodes, offer, refill};
+use frontier::Frontier;
 
-// The distances of a search.
-#[derive(Drop)]
-pub struct Search {
-    pub dist: [u32; 2050],
-}
-
-impl Search {
-    // One search must not colour the next: every node's distance is unreached.
-    pub fn fresh() -> Search
-        ensures { result.dist ≡ replicate 2050 far }
-    {
-        Search {
-            dist: [Nodes::FAR; 2050],
-        }
-    }
-}
-
-// A length among the distances: that it is below 2^32 is said by no array.
-fn wide(x: u32) -> u64
-    ensures { (result ≡ x) × (result ≤ far) }
+// The distances of a search that has not begun. One search must not colour the next: every node is unreached.
+#[inline(always)]
+pub fn fresh() -> [u32; Frontier::MAX]
+    ensures { result ≡ replicate 2050 far }
 {
-    x as u64
+    [Frontier::FAR; Frontier::MAX]
+}
+
+// The three ways into each node of n requests: where they come from, and how long they are.
+#[derive(Drop)]
+pub struct Ways<'a> {
+    pub n: usize,
+    pub from: &'a [u16; 6150],
+    pub len: &'a [u32; 6150],
 }
 
 // Takes a node from the stack, and offers each way into it: one that is closed is too long to bring any node nearer. The requests
 // and what is left are not read: they bound the nodes and the turns to come.
-fn spread(
-    from: &[u16; 6150],
-    len: &[u32; 6150],
-    n: usize,
-    dist: &mut [u32; 2050],
-    hop: &mut [u16; 2050],
-    stack: &mut [u16; 2050],
-    list: &mut [u16; 2050],
-    ends: Ends,
-    current: u64,
-    left: usize,
-) -> Ends
-    requires { Graph n from.now len.now × Runs (suc (2 * n)) n (ways_by from.now len.now) dist.old hop.old stack.old list.old ends.top ends.waiting current left × (0 < ends.top) }
-    ensures { Runs (suc (2 * n)) n (ways_by from.now len.now) dist.new hop.new stack.new list.new result.top result.waiting current (left - 1) }
+fn spread(ways: &Ways<'_>, search: &mut Frontier, current: u64, left: usize)
+    requires { Graph ways.now.n ways.now.from.now ways.now.len.now × Runs (suc (2 * ways.now.n)) ways.now.n (ways_by ways.now.from.now ways.now.len.now) (desk_of search.old) current left × (0 < search.old.top) }
+    ensures { Runs (suc (2 * ways.now.n)) ways.now.n (ways_by ways.now.from.now ways.now.len.now) (desk_of search.new) current (left - 1) }
 {
-    let top = ends.top - 1;
-    let u = stack[top];
-    let mut held = Ends {
-        top,
-        waiting: ends.waiting,
-    };
-    let mut kind: usize = 0;
-    while kind < 3 {
-        let way = 3 * u as usize + kind;
-        let e = current + wide(len[way]);
-        held = offer(dist, hop, stack, list, held, u, from[way], e, current);
-        kind += 1;
+    search.top -= 1;
+    let u = search.stack[search.top];
+    for kind in 0..3 {
+        let way = 3 * usize::from(u) + kind;
+        let e = current + u64::from(ways.len[way]);
+        search.offer(u, ways.from[way], e, current);
     }
-    held
 }
 
-// The distances back from point n, until point 0 is reached; hop says where the way goes on from each node. The search is lent, since
-// one that is handed out is copied, and the stack is short; it begins anew.
-pub fn shortest(
-    from: &[u16; 6150],
-    len: &[u32; 6150],
-    n: usize,
-    hop: &mut [u16; 2050],
-    s: &mut Search,
-)
-    requires { Graph n from.now len.now × (length hop.old ≡ 2050) }
-    ensures { Finds (suc (2 * n)) n (ways_by from.now len.now) s.new.dist hop.new }
+// The distances back from point n, until point 0 is reached, and where the way goes on from each node. The search is lent, since one
+// that is handed out is copied, and the stack is short.
+pub fn shortest(ways: &Ways<'_>, search: &mut Frontier)
+    requires { Graph ways.now.n ways.now.from.now ways.now.len.now }
+    ensures { Finds (suc (2 * ways.now.n)) ways.now.n (ways_by ways.now.from.now ways.now.len.now) search.new.dist search.new.hop }
 {
-    *s = Search::fresh();
-    let mut stack = [1u16; 2050];
-    let mut list = [1u16; 2050];
-    s.dist[n] = 0;
-    stack[0] = n as u16;
-    let mut ends = Ends { top: 1, waiting: 0 };
+    search.dist = fresh();
+    search.dist[ways.n] = 0;
+    search.stack[0] = ways.n as u16;
+    search.top = 1;
+    search.waiting = 0;
     let mut current: u64 = 0;
+    // A `for` over the turns is no plainer: where none is left it would still owe that point 0 is reached.
     let mut left: usize = 4100;
-    while current < s.dist[0] as u64 {
-        if ends.top == 0 {
-            let filled = refill(&s.dist, &mut stack, &mut list, ends.waiting, current);
-            current = filled.low;
-            ends = Ends {
-                top: filled.top,
-                waiting: filled.waiting,
-            };
+    while current < u64::from(search.dist[0]) {
+        if search.top == 0 {
+            current = search.refill(current);
         }
-        ends = spread(
-            from,
-            len,
-            n,
-            &mut s.dist,
-            hop,
-            &mut stack,
-            &mut list,
-            ends,
-            current,
-            left,
-        );
+        spread(ways, search, current, left);
         left -= 1;
     }
 }

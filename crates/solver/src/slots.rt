@@ -1,58 +1,84 @@
 // One slot after the other.
-// Each function is handed the trace, which it does not read, so that its contract can speak of it.
 ghost use Rattle.std.specs.Prelude.{suc, ◌≤◌, ◌<◌};
 ghost use Rattle.steps.specs.Slots.{Laid, Cheap};
 
-use crate::search::{Search, shortest};
+use crate::search::{Ways, fresh, shortest};
 use crate::walk::walk;
+use frontier::Frontier;
+use trace::Header;
 use ways::lengths;
 use worths::raise;
 
-// One slot more. The lengths of the ways are told anew.
-fn more(
-    trace: &[u8],
-    from: &[u16; 6150],
-    charges: &[u32; 1024],
-    worth: &mut [u32; 2050],
-    flags: &mut [u8; 1024],
-    len: &mut [u32; 6150],
-    n: usize,
-    fill: u32,
-    k: u8,
-)
-    requires { Laid trace.now n fill k worth.old flags.old from.now charges.now × (k < 64) }
-    ensures { Laid trace.now n fill (suc k) worth.new flags.new from.now charges.now }
-{
-    let mut hop = [1u16; 2050];
-    lengths(n, fill, k, from, charges, flags, worth, len);
-    let mut s = Search::fresh();
-    shortest(from, len, n, &mut hop, &mut s);
-    let d = s.dist[0] as u64;
-    raise(&s.dist, 2 * n + 1, d, worth);
-    walk(trace, worth, flags, &hop, n, k);
+// What the slots are laid on: a trace, what its header says, where the ways of its network come from, and what its requests pay. The
+// trace is not read here: the contracts speak of it.
+#[derive(Drop)]
+pub struct Lists<'a> {
+    pub trace: &'a [u8],
+    pub header: Header,
+    pub from: &'a [u16; 6150],
+    pub charges: &'a [u32; 1024],
 }
 
-// Lays slots until there are w, or until one more would save nothing.
-pub fn lay(
-    trace: &[u8],
-    from: &[u16; 6150],
-    charges: &[u32; 1024],
-    worth: &mut [u32; 2050],
-    flags: &mut [u8; 1024],
-    n: usize,
-    fill: u32,
-    w: u8,
-)
-    requires { Laid trace.now n fill 0 worth.old flags.old from.now charges.now × Cheap n worth.old × (w ≤ 64) }
-    ensures { Laid trace.now n fill w worth.new flags.new from.now charges.now × Cheap n worth.new }
-{
-    let mut len = [1u32; 6150];
-    let mut k: u8 = 0;
-    while k < w {
-        if worth[0] == worth[n] {
-            return;
+// The slots that are laid: the worths of points and requests, and the flags that fit together with them.
+#[derive(Drop)]
+pub struct Slots {
+    pub worth: [u32; 2050],
+    pub flags: [u8; 1024],
+}
+
+impl Slots {
+    // One slot more. The lengths of the ways are told anew.
+    fn more(&mut self, lists: &Lists<'_>, len: &mut [u32; 6150], search: &mut Frontier, k: u8)
+        requires { Laid lists.now.trace.now lists.now.header.requests lists.now.header.fill k self.old.worth self.old.flags lists.now.from.now lists.now.charges.now × (k < 64) }
+        ensures { Laid lists.now.trace.now lists.now.header.requests lists.now.header.fill (suc k) self.new.worth self.new.flags lists.now.from.now lists.now.charges.now }
+    {
+        let n = lists.header.requests;
+        let fill = lists.header.fill as u32;
+        lengths(
+            n,
+            fill,
+            k,
+            lists.from,
+            lists.charges,
+            &self.flags,
+            &self.worth,
+            len,
+        );
+        let ways = Ways {
+            n,
+            from: lists.from,
+            len,
+        };
+        shortest(&ways, search);
+        raise(
+            &search.dist,
+            2 * n + 1,
+            u64::from(search.dist[0]),
+            &mut self.worth,
+        );
+        walk(lists, &self.worth, &mut self.flags, &search.hop, k);
+    }
+
+    // Lays slots until there are w, or until one more would save nothing.
+    pub fn lay(&mut self, lists: &Lists<'_>, w: u8)
+        requires { Laid lists.now.trace.now lists.now.header.requests lists.now.header.fill 0 self.old.worth self.old.flags lists.now.from.now lists.now.charges.now × Cheap lists.now.header.requests self.old.worth × (w ≤ 64) }
+        ensures { Laid lists.now.trace.now lists.now.header.requests lists.now.header.fill w self.new.worth self.new.flags lists.now.from.now lists.now.charges.now × Cheap lists.now.header.requests self.new.worth }
+    {
+        let mut len = [1u32; 6150];
+        // It is made here: a search that is handed out is copied, and the stack is short.
+        let mut search = Frontier {
+            top: 0,
+            waiting: 0,
+            dist: fresh(),
+            hop: [0; Frontier::MAX],
+            stack: [0; Frontier::MAX],
+            list: [0; Frontier::MAX],
+        };
+        for k in 0..w {
+            if self.worth[0] == self.worth[lists.header.requests] {
+                return;
+            }
+            self.more(lists, &mut len, &mut search, k);
         }
-        more(trace, from, charges, worth, flags, &mut len, n, fill, k);
-        k += 1;
     }
 }

@@ -4,38 +4,39 @@ ghost use Rattle.std.specs.Prelude.{◌≡◌, suc, ◌*◌, ◌≤◌, ◌<◌,
 ghost use Rattle.trace.specs.TraceFile.{trace_in};
 ghost use Rattle.steps.specs.Slots.{hop_flags, Trail, Walked};
 
+use crate::slots::Lists;
+
 // The flag that a hop from node v to node u changes: from a request to a later one its item is held, to an earlier one held no more.
 fn hopped(flags: &mut [u8; 1024], n: usize, v: usize, u: usize)
     requires { (length flags.old ≡ 1024) × (n ≤ 1024) × (v < suc (2 * n)) × (u < suc (2 * n)) }
     ensures { flags.new ≡ hop_flags n v u flags.old }
 {
-    if n < v {
-        if n < u {
-            if v < u {
-                flags[v - n - 1] = 1;
-            } else {
-                flags[u - n - 1] = 0;
-            }
+    if n < v && n < u {
+        if v < u {
+            flags[v - n - 1] = 1;
+        } else {
+            flags[u - n - 1] = 0;
         }
     }
 }
 
 // Walks from point 0 to point n. No node is passed twice, so what is left of 2050 hops never runs out.
 pub fn walk(
-    trace: &[u8],
+    lists: &Lists<'_>,
     worth: &[u32; 2050],
     flags: &mut [u8; 1024],
     hop: &[u16; 2050],
-    n: usize,
     k: u8,
 )
-    requires { Trail (trace_in trace.now) n k flags.old worth.now hop.now }
-    ensures { Walked (trace_in trace.now) (suc k) flags.new worth.now }
+    requires { Trail (trace_in lists.now.trace.now) lists.now.header.requests k flags.old worth.now hop.now }
+    ensures { Walked (trace_in lists.now.trace.now) (suc k) flags.new worth.now }
 {
+    let n = lists.header.requests;
+    // A `for` over the hops is no plainer: where none is left it would still owe that v is point n.
     let mut left: usize = 2050;
     let mut v: usize = 0;
     while v != n {
-        let u = hop[v] as usize;
+        let u = usize::from(hop[v]);
         hopped(flags, n, v, u);
         v = u;
         left -= 1;

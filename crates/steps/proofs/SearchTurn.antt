@@ -8,7 +8,7 @@ use native.Mathlib.Nat.{zero-add}
 use native.Mathlib.Omega.{arith}
 use lib.ListN.{length, get_or, set, take, drop, replicate, length-set, length-replicate, get_or-replicate, get_or-eq_default}
 use lib.Seq.{sets, sets-eq, get_or-take, get_or-set_same, length-take-le, take-append_seam}
-use Rattle.frontier.specs.Frontier.{far, beyond, nearest, those, written}
+use Rattle.frontier.specs.Frontier.{far, Desk, desk, beyond, nearest, those, written}
 use Rattle.frontier.proofs.Places.{written_length, written_at}
 use Rattle.frontier.proofs.Kept.{Has, beyond_short, beyond_in, beyond_has, those_short, those_in, those_has, nearest_le, nearest_some}
 use Rattle.steps.specs.Ways.{Way}
@@ -123,7 +123,7 @@ blank_even = even 2050 unranked refl
 -- and 4100 turns are enough
 pub runs_begin : (m sink : ℕ) (ways : ℕ → ℕ → Way) (dist hop stack list : List ℕ) → m ≤ 2050 → sink < m → Even far dist
     → length hop ≡ 2050 → length stack ≡ 2050 → length list ≡ 2050
-    → Runs m sink ways (set dist sink 0) hop (set stack 0 sink) list 1 0 0 4100
+    → Runs m sink ways (desk (set dist sink 0) hop (set stack 0 sink) list 1 0) 0 4100
 runs_begin m sink ways dist hop stack list few in-m D h s l =
     record {
       rank = set blank sink 0;
@@ -330,22 +330,21 @@ unfolding written
 take_written nodes old = take-append_seam nodes (drop (length nodes) old)
 
 -- a turn can begin: a node stands on the stack
-pub record Ready (m sink : ℕ) (ways : ℕ → ℕ → Way) (dist hop stack list : List ℕ) (top waiting current left : ℕ) : Type 0 where
-  pub runs : Runs m sink ways dist hop stack list top waiting current left
-  pub some : 0 < top
+pub record Ready (m sink : ℕ) (ways : ℕ → ℕ → Way) (d : Desk) (current left : ℕ) : Type 0 where
+  pub runs : Runs m sink ways d current left
+  pub some : 0 < d.top
 
-module _ {m sink : ℕ} {ways : ℕ → ℕ → Way} {dist hop stack list : List ℕ} {top waiting current left : ℕ}
-    (R : Runs m sink ways dist hop stack list top waiting current left) where
+module _ {m sink : ℕ} {ways : ℕ → ℕ → Way} {d : Desk} {current left : ℕ} (R : Runs m sink ways d current left) where
   -- the stack is not empty
-  pub ready_stay : (top ≡ 0 → ⊥) → Ready m sink ways dist hop stack list top waiting current left
+  pub ready_stay : (d.top ≡ 0 → ⊥) → Ready m sink ways d current left
   ready_stay n = record { runs = R; some = omega (arith, n) }
 
   -- or the list is sifted, and its nearest nodes are taken
-  module _ (o : current < get_or dist 0 0) (in-m : 0 < m) {worth : ℕ → ℕ} (C : Chain m sink ways worth) (z : top ≡ 0) where
+  module _ (o : current < get_or d.dist 0 0) (in-m : 0 < m) {worth : ℕ → ℕ} (C : Chain m sink ways worth) (z : d.top ≡ 0) where
     ready-next :
-        let nodes = beyond dist current (take waiting list) in
-        let nearer = those dist (nearest dist nodes) nodes in
-        Ready m sink ways dist hop (written nearer stack) (written nodes list) (length nearer) (length nodes) (nearest dist nodes) left
+        let nodes = beyond d.dist current (take d.waiting d.list) in
+        let nearer = those d.dist (nearest d.dist nodes) nodes in
+        Ready m sink ways (desk d.dist d.hop (written nearer d.stack) (written nodes d.list) (length nearer) (length nodes)) (nearest d.dist nodes) left
     ready-next =
         let N = run-next R.running o in-m C z in
         record {
@@ -353,21 +352,22 @@ module _ {m sink : ℕ} {ways : ℕ → ℕ → Way} {dist hop stack list : List
           some = nearer-some R.running o in-m C z;
         }
 
-    pub ready-taken : {list' stack' : List ℕ} {waiting' low top' : ℕ} → list' ≡ written (beyond dist current (take waiting list)) list
-        → waiting' ≡ length (beyond dist current (take waiting list)) → low ≡ nearest dist (beyond dist current (take waiting list))
-        → stack' ≡ written (those dist low (take waiting' list')) stack → top' ≡ length (those dist low (take waiting' list'))
-        → Ready m sink ways dist hop stack' list' top' waiting' low left
-    ready-taken {list'} {waiting' = waiting'} l w n s t =
-        let nodes = beyond dist current (take waiting list) in
-        let e : take waiting' list' ≡ nodes = rw (w, l) (take_written nodes list) in
-        rw (s, t, e, n, w, l) ready-next
+    pub ready-taken : {dist' hop' list' stack' : List ℕ} {waiting' low top' : ℕ} → list' ≡ written (beyond d.dist current (take d.waiting d.list)) d.list
+        → waiting' ≡ length (beyond d.dist current (take d.waiting d.list)) → low ≡ nearest d.dist (beyond d.dist current (take d.waiting d.list))
+        → stack' ≡ written (those d.dist low (take waiting' list')) d.stack → top' ≡ length (those d.dist low (take waiting' list'))
+        → dist' ≡ d.dist → hop' ≡ d.hop → Ready m sink ways (desk dist' hop' stack' list' top' waiting') low left
+    ready-taken {list' = list'} {waiting' = waiting'} l w n s t x y =
+        let nodes = beyond d.dist current (take d.waiting d.list) in
+        let e : take waiting' list' ≡ nodes = rw (w, l) (take_written nodes d.list) in
+        rw (x, y, s, t, e, n, w, l) ready-next
 
   -- the node on top of the stack is taken from it
-  pub spreads_pop : 0 < top → Spreads m sink ways dist hop stack list (top - 1) waiting current (left - 1) (get_or stack (top - 1) 0) 0
+  pub spreads_pop : 0 < d.top
+      → Spreads m sink ways (desk d.dist d.hop d.stack d.list (d.top - 1) d.waiting) current (left - 1) (get_or d.stack (d.top - 1) 0) 0
   spreads_pop p =
       record { rank = R.rank; turn = R.turn; spreading = run_pop R.running p; bound = omega (arith, R.bound) }
 
 -- and when all ways into it are offered the next turn can begin
-pub spreads_on : {m sink : ℕ} {ways : ℕ → ℕ → Way} {dist hop stack list : List ℕ} {top waiting current left u : ℕ}
-    → Spreads m sink ways dist hop stack list top waiting current left u 3 → Runs m sink ways dist hop stack list top waiting current left
+pub spreads_on : {m sink : ℕ} {ways : ℕ → ℕ → Way} {d : Desk} {current left u : ℕ} → Spreads m sink ways d current left u 3
+    → Runs m sink ways d current left
 spreads_on S = record { rank = S.rank; turn = S.turn; running = run_on S.spreading; bound = S.bound }

@@ -6,7 +6,7 @@ use native.Mathlib.Decide.{dec_lt}
 use native.Mathlib.Omega.{arith}
 use borrow.Author.Tests.{lt-ltb, le-ltb}
 use lib.ListN.{get_or}
-use Rattle.frontier.specs.Frontier.{far, Desk, desk, offered}
+use Rattle.frontier.specs.Frontier.{far, Desk, offered}
 use Rattle.frontier.proofs.Desks.{offered-stay}
 use Rattle.steps.specs.Search.{ways_by, Graph}
 use Rattle.steps.proofs.SearchOffer.{Spreads, spreads_stay, spreads_offer}
@@ -21,8 +21,8 @@ module _ (from len : List ℕ) (u kind : ℕ) where
   unfolding ways_by
   way_closed l = rw (le-ltb (get_or len (3 * u + kind) 0) far l) (refl, refl)
 
-module _ {n : ℕ} {from len : List ℕ} (G : Graph n from len) {dist hop stack list : List ℕ} {top waiting current left u s : ℕ}
-    (R : Spreads (suc (2 * n)) n (ways_by from len) dist hop stack list top waiting current left u s) (small : s < 3) where
+module _ {n : ℕ} {from len : List ℕ} (G : Graph n from len) {d : Desk} {current left u s : ℕ}
+    (R : Spreads (suc (2 * n)) n (ways_by from len) d current left u s) (small : s < 3) where
   abbrev v : ℕ
   v = get_or from (3 * u + s) 0
 
@@ -36,23 +36,20 @@ module _ {n : ℕ} {from len : List ℕ} (G : Graph n from len) {dist hop stack 
   v<2050 = omega (arith, v_inside, G.few)
 
   -- a closed way brings no node nearer
-  beyond_far : far ≤ size → get_or dist v 0 ≤ current + size
+  beyond_far : far ≤ size → get_or d.dist v 0 ≤ current + size
   beyond_far l = omega (arith, R.spreading.kept.near v)
 
-  abbrev before : Desk
-  before = desk dist hop stack list top waiting
-
   abbrev SpreadsOn : Desk → Type 0
-  SpreadsOn d = Spreads (suc (2 * n)) n (ways_by from len) d.dist d.hop d.stack d.list d.top d.waiting current left u (s + 1)
+  SpreadsOn after = Spreads (suc (2 * n)) n (ways_by from len) after current left u (s + 1)
 
   -- a closed way
-  spreads_closed : far ≤ size → SpreadsOn (offered before u v (current + size) current)
+  spreads_closed : far ≤ size → SpreadsOn (offered d u v (current + size) current)
   spreads_closed l =
       let w = way_closed from len u s l in
-      subst SpreadsOn (sym (offered-stay before u v (current + size) current v<2050 (beyond_far l)))
+      subst SpreadsOn (sym (offered-stay d u v (current + size) current v<2050 (beyond_far l)))
       (spreads_stay R small w.0 w.1 R.spreading.within (omega (arith, R.spreading.stood)))
 
-  whatever : SpreadsOn (offered before u v (current + size) current)
+  whatever : SpreadsOn (offered d u v (current + size) current)
   whatever =
       elim (dec_lt size far) [
         | yes l ↦ let w = way_open from len u s l in spreads_offer R small w.0 w.1 v_inside
@@ -60,7 +57,6 @@ module _ {n : ℕ} {from len : List ℕ} (G : Graph n from len) {dist hop stack 
       ]
 
   -- after the offer to the node that it comes from
-  pub spreads_next : {l : ℕ} → l ≡ size → {dist' hop' stack' list' : List ℕ} {top' waiting' : ℕ}
-      → desk dist' hop' stack' list' top' waiting' ≡ offered before u v (current + l) current
-      → Spreads (suc (2 * n)) n (ways_by from len) dist' hop' stack' list' top' waiting' current left u (s + 1)
+  pub spreads_next : {l : ℕ} → l ≡ size → {after : Desk} → after ≡ offered d u v (current + l) current
+      → Spreads (suc (2 * n)) n (ways_by from len) after current left u (s + 1)
   spreads_next e q = subst SpreadsOn (sym q) (rw e whatever)

@@ -1,6 +1,6 @@
 -- A search for shortest distances back from a sink over the ways into each node. Assumes nothing.
 use Rattle.std.specs.Prelude.{◌≡◌, cond, ◌⊎◌, List, [], ◌∷◌, ℕ, suc, ◌+◌, ◌*◌, ◌-◌, ◌≤◌, ◌<◌, min, eqb, ltb, length, get_or}
-use Rattle.frontier.specs.Frontier.{far}
+use Rattle.frontier.specs.Frontier.{far, Desk}
 use Rattle.steps.specs.Ways.{Way, no_way}
 
 -- the ways by the lists of where they come from and of their lengths: one that is as long as far is closed, and counts as none
@@ -80,13 +80,13 @@ pub record Running (m sink : ℕ) (ways : ℕ → ℕ → Way) (dist hop rank st
   pub waits : Waits m dist rank list waiting
   pub ahead : Ahead m dist rank current
 
--- the search runs, in some order of the nodes that it reached, and `left` turns are enough: each takes one node from the stack, and
--- puts on it no more than it reaches
-pub record Runs (m sink : ℕ) (ways : ℕ → ℕ → Way) (dist hop stack list : List ℕ) (top waiting current left : ℕ) : Type 0 where
+-- a search runs with this desk, in some order of the nodes that it reached, and `left` turns are enough: each takes one node from the
+-- stack, and puts on it no more than it reaches
+pub record Runs (m sink : ℕ) (ways : ℕ → ℕ → Way) (d : Desk) (current left : ℕ) : Type 0 where
   pub rank : List ℕ
   pub turn : ℕ
-  pub running : Running m sink ways dist hop rank stack list top waiting current turn
-  pub bound : 2 * (2050 - turn) + top ≤ left
+  pub running : Running m sink ways d.dist d.hop rank d.stack d.list d.top d.waiting current turn
+  pub bound : 2 * (2050 - turn) + d.top ≤ left
 
 -- each point before the sink has a way on to the next, and all of them together are shorter than far
 pub record Chain (m sink : ℕ) (ways : ℕ → ℕ → Way) (worth : ℕ → ℕ) : Type 0 where

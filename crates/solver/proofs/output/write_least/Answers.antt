@@ -1,49 +1,36 @@
-use mathlib.Core.Path.{◌≡◌, sym, ap, ◌∙◌}
-use Prim.Native.Nat.{ℕ, ◌≤◌}
+use mathlib.Core.Path.{◌≡◌, ap, ◌∙◌}
+use Prim.Native.Nat.{ℕ}
 use native.Mathlib.Omega.{arith}
 use lib.ListN.{length-replicate}
-use lib.Seq.{length-take-le}
 use Rattle.trace.specs.TraceFile.{requests_at, slots_at, fill_at}
 use Rattle.trace.specs.declared.Header.{Header}
 use Rattle.writer.specs.Write.{said}
-use Rattle.steps.proofs.Laying.{ready_few, ready_slots, ready_fill, ready_laid}
+use Rattle.steps.proofs.Laying.{ready_few, ready_slots, ready_laid}
 use Rattle.solver.proofs.Planned.{laid_proving, proving_written, proving_laid}
 use Rattle.solver.proofs.output.write_least.Goals as goal
 use Rattle.solver.proofs.output.write_least.Goals.{Start}
 
 -- what the header says
-requests : (c : Start) → c.args.h.requests ≡ requests_at c.args.trace.now
+requests : (c : Start) → c.args.lists.now.header.requests ≡ requests_at c.args.lists.now.trace.now
 requests c = ap (λ (h : Header). h.requests) c.requires.1
 
-slots : (c : Start) → c.args.h.slots ≡ slots_at c.args.trace.now
+slots : (c : Start) → c.args.lists.now.header.slots ≡ slots_at c.args.lists.now.trace.now
 slots c = ap (λ (h : Header). h.slots) c.requires.1
 
-price : (c : Start) → c.args.h.fill ≡ fill_at c.args.trace.now
+price : (c : Start) → c.args.lists.now.header.fill ≡ fill_at c.args.lists.now.trace.now
 price c = ap (λ (h : Header). h.fill) c.requires.1
 
-few : (c : Start) → c.args.h.requests ≤ 1024
-few c = omega (arith, requests c, ready_few c.requires.0)
-
-pub overflow_cast-fill : goal.overflow_cast-fill
-overflow_cast-fill c = omega (arith, price (goal.at.overflow_cast-fill c).Start, ready_fill c.requires.0)
+pub overflow_cast-lists : goal.overflow_cast-lists
+overflow_cast-lists c = omega (arith, slots (goal.at.overflow_cast-lists c).Start, ready_slots c.requires.0)
 
 pub lay-requires : goal.lay-requires
 lay-requires c =
-    let l = ready_laid c.requires.0 _ _ (requests (goal.at.lay-requires c).Start) (price (goal.at.lay-requires c).Start) in
-    (l.0, l.1, omega (arith, slots (goal.at.lay-requires c).Start, ready_slots c.requires.0))
+    let start = (goal.at.lay-requires c).Start in
+    let l = ready_laid c.requires.0 _ _ (requests start) (price start) in
+    (rw c.requires.2 l.0, l.1, omega (arith, slots start, ready_slots c.requires.0))
 
-pub slice_bounds-flags-end : goal.slice_bounds-flags-end
-slice_bounds-flags-end c = omega (arith, few (goal.at.slice_bounds-flags-end c).Start, c.lay.ensures.0.flags_long)
-
-pub slice_bounds-write-end : goal.slice_bounds-write-end
-slice_bounds-write-end c = sym (length-take-le _ _ (omega (arith, few (goal.at.slice_bounds-write-end c).Start, c.lay.ensures.0.flags_long)))
-
-pub slice_bounds-prices-end : goal.slice_bounds-prices-end
-slice_bounds-prices-end c = omega (arith, few (goal.at.slice_bounds-prices-end c).Start, c.rents.ensures.long, length-replicate {A = ℕ} 1024 1)
-
-pub slice_bounds-write-end-2 : goal.slice_bounds-write-end-2
-slice_bounds-write-end-2 c =
-    sym (length-take-le _ _ (omega (arith, few (goal.at.slice_bounds-write-end-2 c).Start, c.rents.ensures.long, length-replicate {A = ℕ} 1024 1)))
+pub shared_ref_as_front-write : goal.shared_ref_as_front-write
+shared_ref_as_front-write c = omega (arith, requests (goal.at.shared_ref_as_front-write c).Start, ready_few c.requires.0)
 
 pub returns-in-Cost : goal.returns-in-Cost
 returns-in-Cost c =

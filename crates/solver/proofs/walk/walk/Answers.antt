@@ -8,7 +8,7 @@ loop-v-init c = (c.requires, trail_start c.requires)
 pub loop-v-preserved : goal.loop-v-preserved
 loop-v-preserved c =
     let i = c.loop-v.invariant in
-    (i.0, rw c.hopped.ensures (trail_step i.0 i.1 (omega arith)))
+    (i.0, rw (c.hopped.ensures, c.from-u.ensures) (trail_step i.0 i.1 (omega arith)))
 
 pub returns : goal.returns
 returns c = let i = c.loop-v.invariant in trail_end i.0 i.1 (omega arith)
