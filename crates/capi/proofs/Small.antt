@@ -14,7 +14,9 @@ use Rattle.fields.specs.Bytes.{num_at}
 use Rattle.model.specs.Model.{Rules, Request, Trace, Contents}
 use Rattle.model.specs.Plans.{Flags, flags_in, may_flag, occupancy}
 use Rattle.model.specs.Numbers.{max_slots, max_requests, max_cost, max_rent, max_plan_cost}
-use Rattle.model.specs.Refusals.{Tried, passes, refusal, row, next, refused, answer}
+use Rattle.std.specs.Prelude.{Result, Ok, Err}
+use Rattle.model.specs.Refusals.{Tried, passes, refusal, row, next, refused, answer, answered}
+use Rattle.model.specs.declared.Refusal.{Refusal}
 use Rattle.model.proofs.Links.{length-listed}
 use Rattle.trace.specs.TraceFile.{slots_at, requests_at, fill_at, kind_at, zero_at, cost_at, length_at, marked_trace, records_tried, trace_tried, trace_in}
 use Rattle.trace.proofs.Sound.{sound_trace, reqs_length}
@@ -27,7 +29,7 @@ use Rattle.floor.specs.Floor.{floor_tried}
 use Rattle.ratio.specs.Ratio.{ratio_tried}
 use Rattle.solver.specs.Solve.{solve_tried}
 use Rattle.writer.specs.Write.{buffer_tried, write_tried}
-use Rattle.capi.specs.Codes.{Codable, code_of_tried}
+use Rattle.capi.specs.Codes.{Codable, Coded, code_of_tried}
 
 -- what rows come to: none holds, or one whose code tells it
 pub data Small : Tried → Type 0 where
@@ -188,6 +190,11 @@ answered_codable a {number = number} {place = place} (one {number = n} {place = 
     let x : number ≡ n = cc in
     let y : place ≡ p = cc in
     rw (x, y) h
+
+-- and so has every answer that is what such rows come to
+pub answer_coded : {A : Type 0} {t : Tried} (a : A) (r : Result A Refusal) → Small t → answered r ≡ answer t a → Coded r
+answer_coded a (Ok v) s e = tt
+answer_coded a (Err r) s e = answered_codable a s e
 
 -- a code tells what the rows came to
 pub code_tells : {a b : Tried} → Small a → Small b → code_of_tried a ≡ code_of_tried b → a ≡ b

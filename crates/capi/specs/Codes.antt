@@ -1,10 +1,10 @@
 -- What the calls answer in C: 0 when the work is done, else the refusal's number + 256 · its place; and what lent numbers then hold.
 -- Assumes nothing.
-use Rattle.std.specs.Prelude.{◌≡◌, ℕ, ◌+◌, ◌*◌, ◌≤◌, ◌<◌, List, [], ◌∷◌, Float}
-use Rattle.model.specs.Refusals.{Tried, passes, refusal, Answer, fine, refused}
+use Rattle.std.specs.Prelude.{◌≡◌, ℕ, ◌+◌, ◌*◌, ◌≤◌, ◌<◌, List, [], ◌∷◌, Float, Result, Ok, Err}
+use Rattle.model.specs.Refusals.{Tried, passes, refusal, Answer, fine, refused, number_of, place_of, answered}
+use Rattle.model.specs.declared.Refusal.{Refusal}
 use Rattle.replay.specs.Replay.{Totals}
-use Rattle.solver.specs.Solve.{said, Promise}
-use Rattle.solver.specs.declared.Solved.{Solved}
+use Rattle.solver.specs.Solve.{Promise}
 use Rattle.ratio.specs.declared.Gap.{Gap}
 use Rattle.ratio.specs.declared.Gap.TheVariants.{NoCost, NoRatio, Ratio}
 
@@ -56,9 +56,14 @@ pub record Codable (number place : ℕ) : Type 0 where
   pub byte : number < 256
   pub near : place ≤ 65536
 
+-- an answer whose refusal, if it is one, has a code
+abbrev pub Coded : {A : Type 0} → Result A Refusal → Type 0
+Coded (Ok a) = Unit {0}
+Coded (Err r) = Codable (number_of r) (place_of r)
+
 -- what gp_solve leaves: some answer that solve's promise permits, its code, its cost, and the buffer
 pub record Solves (trace before : List ℕ) (cost code : ℕ) (after : List ℕ) (cost' : ℕ) : Type 0 where
-  pub answer : Solved
+  pub answer : Result ℕ Refusal
   pub promise : Promise trace before answer after
-  pub code_is : code ≡ code_of (said answer)
-  pub cost_is : cost' ≡ value_or (said answer) cost
+  pub code_is : code ≡ code_of (answered answer)
+  pub cost_is : cost' ≡ value_or (answered answer) cost

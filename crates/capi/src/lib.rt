@@ -3,28 +3,39 @@
 #![tactic(auto)]
 
 ghost use Rattle.std.specs.Prelude.{◌≡◌, ◌+◌, ◌*◌, length};
+ghost use Rattle.model.specs.Refusals.{number_of, place_of, answered};
 ghost use Rattle.plan.specs.PlanFile.{section_tried};
 ghost use Rattle.audit.specs.Audit.{audit_of};
 ghost use Rattle.judge.specs.Judge.{judge_of};
 ghost use Rattle.floor.specs.Floor.{floor_of};
 ghost use Rattle.ratio.specs.Ratio.{ratio_of};
 ghost use Rattle.writer.specs.Write.{write_of, buffer_of};
-ghost use Rattle.capi.specs.Codes.{Codable, Solves, code_of_tried, code_of, value_or, totals_or, kind_or, ratio_or};
+ghost use Rattle.capi.specs.Codes.{Codable, Coded, Solves, code_of_tried, code_of, value_or, totals_or, kind_or, ratio_or};
 
-use audit::Audited;
-use floor::Floored;
-use judge::Judged;
-use model::{Outcome, Refusal};
-use ratio::{Gap, Rated};
-use solver::Solved;
-use writer::Written;
+use model::Refusal;
+use ratio::Gap;
 
 // The code of a refusal.
 fn code(r: Refusal) -> u64
-    requires { Codable r.number r.place }
-    ensures { result ≡ r.number + 256 * r.place }
+    requires { Codable (number_of r) (place_of r) }
+    ensures { result ≡ number_of r + 256 * place_of r }
 {
-    r.number + 256 * r.place
+    r.number() + 256 * r.place()
+}
+
+// The code of an answer whose value goes to `out`.
+fn coded<T: Copy>(answer: Result<T, Refusal>, out: &mut T) -> u64
+    requires { Coded answer }
+    ensures value { result ≡ code_of (answered answer) }
+    ensures out_after { out.new ≡ value_or (answered answer) out.old }
+{
+    match answer {
+        Ok(value) => {
+            *out = value;
+            0
+        }
+        Err(r) => code(r),
+    }
 }
 
 // Total cost, read misses, fills and write hits of a plan. Refusals 1 to 17.
@@ -33,11 +44,11 @@ pub fn gp_audit(trace: &[u8], plan: &[u8], totals: &mut [u64; 4]) -> u64
     ensures totals_after { totals.new ≡ totals_or (audit_of trace.now plan.now) totals.old }
 {
     match audit::audit(trace, plan) {
-        Audited::Refused(r) => code(r),
-        Audited::Sound(s) => {
+        Ok(s) => {
             *totals = [s.total, s.misses, s.fills, s.strikes];
             0
         }
+        Err(r) => code(r),
     }
 }
 
@@ -46,13 +57,7 @@ pub fn gp_judge(trace: &[u8], plan: &[u8], cost: &mut u64) -> u64
     ensures value { result ≡ code_of (judge_of trace.now plan.now) }
     ensures cost_after { cost.new ≡ value_or (judge_of trace.now plan.now) cost.old }
 {
-    match judge::judge(trace, plan) {
-        Judged::Refused(r) => code(r),
-        Judged::Accepted(c) => {
-            *cost = c;
-            0
-        }
-    }
+    coded(judge::judge(trace, plan), cost)
 }
 
 // The floor of a list of rents. Refusals 1 to 8, 11, 17.
@@ -60,13 +65,7 @@ pub fn gp_floor(trace: &[u8], rents: &[u32], floor: &mut i64) -> u64
     ensures value { result ≡ code_of (floor_of trace.now rents.now) }
     ensures floor_after { floor.new ≡ value_or (floor_of trace.now rents.now) floor.old }
 {
-    match floor::floor(trace, rents) {
-        Floored::Refused(r) => code(r),
-        Floored::Floor(z) => {
-            *floor = z;
-            0
-        }
-    }
+    coded(floor::floor(trace, rents), floor)
 }
 
 // The plan file of flags and rents, from the buffer's start; the rest of the buffer is kept. Refusals 1 to 8, 11, 13, 14, 15, 17, 19.
@@ -75,35 +74,23 @@ pub fn gp_write(trace: &[u8], flags: &[u8], rents: &[u32], buffer: &mut [u8], co
     ensures buffer_after { buffer.new ≡ buffer_of trace.now flags.now rents.now buffer.old }
     ensures cost_after { cost.new ≡ value_or (write_of trace.now flags.now rents.now (length buffer.old)) cost.old }
 {
-    match writer::write(trace, flags, rents, buffer) {
-        Written::Refused(r) => code(r),
-        Written::Cost(c) => {
-            *cost = c;
-            0
-        }
-    }
+    coded(writer::write(trace, flags, rents, buffer), cost)
 }
 
 // A least-cost plan from the buffer's start, and its cost. Refusals 1 to 8, then 19.
 pub fn gp_solve(trace: &[u8], buffer: &mut [u8], cost: &mut u64) -> u64
     ensures { Solves trace.now buffer.old cost.old result buffer.new cost.new }
 {
-    match solver::solve(trace, buffer) {
-        Solved::Refused(r) => code(r),
-        Solved::Least(c) => {
-            *cost = c;
-            0
-        }
-    }
+    coded(solver::solve(trace, buffer), cost)
 }
 
 // Whether the flags and the rents can be taken from a plan's bytes. Refusals 1 to 12.
 pub fn gp_section(trace: &[u8], plan: &[u8]) -> u64
     ensures { result ≡ code_of_tried (section_tried trace.now plan.now) }
 {
-    match plan::refusal(trace, plan) {
-        Outcome::Refused(r) => code(r),
-        Outcome::Sound => 0,
+    match plan::check(trace, plan) {
+        Ok(()) => 0,
+        Err(r) => code(r),
     }
 }
 
@@ -114,21 +101,13 @@ pub fn gp_ratio(least: u64, measured: u64, kind: &mut u8, ratio: &mut f64) -> u6
     ensures ratio_after { ratio.new ≡ ratio_or (ratio_of least measured) ratio.old }
 {
     match ratio::ratio(least, measured) {
-        Rated::Refused(r) => code(r),
-        Rated::Gave(g) => {
-            match g {
-                Gap::NoCost => {
-                    *kind = 0;
-                }
-                Gap::NoRatio => {
-                    *kind = 1;
-                }
-                Gap::Ratio(q) => {
-                    *kind = 2;
-                    *ratio = q;
-                }
-            }
-            0
+        Ok(Gap::NoCost) => *kind = 0,
+        Ok(Gap::NoRatio) => *kind = 1,
+        Ok(Gap::Ratio(quotient)) => {
+            *kind = 2;
+            *ratio = quotient;
         }
+        Err(r) => return code(r),
     }
+    0
 }

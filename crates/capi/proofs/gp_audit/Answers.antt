@@ -7,4 +7,4 @@ use Rattle.capi.proofs.gp_audit.Goals as goal
 pub code-requires : goal.code-requires
 code-requires c =
     answered_codable (totals_of (trace_in c.args.trace.now) (plan_flags c.args.trace.now c.args.plan.now)) (audit_small c.args.trace.now c.args.plan.now)
-    (rw c.in-Refused.is at c.audit.ensures)
+    c.in-Err.ensures

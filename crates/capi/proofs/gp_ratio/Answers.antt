@@ -4,5 +4,4 @@ use Rattle.capi.proofs.gp_ratio.Goals as goal
 
 pub code-requires : goal.code-requires
 code-requires c =
-    answered_codable (gap_of c.args.least c.args.measured) (ratio_small c.args.least c.args.measured)
-    (rw c.in-Refused.is at c.ratio.ensures)
+    answered_codable (gap_of c.args.least c.args.measured) (ratio_small c.args.least c.args.measured) c.in-Err.ensures
