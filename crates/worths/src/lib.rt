@@ -15,7 +15,7 @@ mod name;
 pub const MAX: u32 = u32::MAX;
 
 // How many places a list of worths has: enough for a point before each request, the last point, and each request.
-pub const PLACES: usize = 2050;
+pub const PLACES: usize = 2 * Requests::MAX + 2;
 
 // The worths that fit no flags and no slots, told from the last request back by the list of next requests; the rest is kept. All is
 // kept of a trace that has too many requests.
