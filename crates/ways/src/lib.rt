@@ -42,7 +42,9 @@ pub fn charges(trace: &[u8], charges: &mut [u32; Requests::MAX])
 {
     let n = trace::requests(trace);
     if n <= Requests::MAX {
-        paid::lay(trace, n, charges);
+        for t in 0..n {
+            charges[t] = paid::charge(trace, t);
+        }
     }
 }
 
