@@ -4,8 +4,7 @@ use Rattle.model.specs.Model.{Rules, Request, Trace, Contents, misses, fills, st
 use Rattle.model.specs.Plans.{Flags, flags_in, contents, may_flag, occupancy}
 use Rattle.model.specs.Refusals.{Tried, passes, row, next, Answer, answer}
 use Rattle.trace.specs.TraceFile.{requests_at, trace_tried, trace_in}
--- what flags come to: the cost of the contents that they name, and how many read misses, fills and write hits it has
-pub use Rattle.replay.specs.declared.Totals.{Totals}
+use Rattle.replay.specs.declared.Totals as code
 
 -- row 13, for the flags of the requests after request t
 abbrev pub values_tried : (t : ℕ) → List ℕ → Tried
@@ -36,6 +35,10 @@ flags_tried tr flags =
 -- row 11, for a list that should have n numbers
 abbrev pub count_tried : (n : ℕ) → List ℕ → Tried
 count_tried n l = row (not (eqb (length l) n)) 11 0 passes
+
+-- what flags come to: the cost of the contents that they name, and how many read misses, fills and write hits it has
+abbrev pub Totals : Type 0
+Totals = code.Totals
 
 -- the totals of flags on a trace
 abbrev pub totals_of : Trace → (flags : List ℕ) → Totals

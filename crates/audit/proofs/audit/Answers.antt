@@ -1,35 +1,45 @@
 use mathlib.Core.Path.{◌≡◌, sym}
+use Rattle.std.proofs.lemmas.Result.{err_from_is_err_and}
 use Rattle.model.specs.Refusals.{passes, fine}
 use Rattle.plan.specs.PlanFile.{section_tried, flags_of}
 use Rattle.replay.specs.Replay.{replay_of}
-use Rattle.replay.specs.Answers.{totals_in}
 use Rattle.audit.proofs.Answered.{section_off, flags-off, cost-off, rents_off, audit-done}
 use Rattle.audit.proofs.audit.Goals as goal
-use Rattle.audit.proofs.audit.Goals.{In-Done, In_default}
+use Rattle.audit.proofs.audit.Goals.{In_ok-check, In_ok-totals, After-rents}
 
 -- where rows 1 to 12 pass
-passed : (c : In_default) → section_tried c.args.trace.now c.args.plan.now ≡ passes
-passed c = sym (rw c.in_default.is at c.refusal.ensures)
+passed : (c : In_ok-check) → section_tried c.args.trace.now c.args.plan.now ≡ passes
+passed c = sym c.in_ok-check.ensures
 
 -- where the replay has totals
-done : (c : In-Done) → fine (totals_in c.in-Done.totals) ≡ replay_of c.args.trace.now (flags_of c.args.trace.now c.args.plan.now)
-done c = rw (c.in-Done.is, c.flags.ensures) at c.replay.ensures
+done : (c : In_ok-totals) → fine c.in_ok-totals.totals ≡ replay_of c.args.trace.now (flags_of c.args.trace.now c.args.plan.now)
+done c = rw c.flags.ensures at c.in_ok-totals.ensures
 
-pub returns-in-Refused : goal.returns-in-Refused
-returns-in-Refused c = section_off c.args.trace.now c.args.plan.now _ _ (rw c.in-Refused.is at c.refusal.ensures)
+pub returns-in_err-check : goal.returns-in_err-check
+returns-in_err-check c =
+    let p = err_from_is_err_and c.from_residual.result c.from_residual.ensures.1 in
+    rw (p.1, p.2) (section_off c.args.trace.now c.args.plan.now _ _ c.in_err-check.ensures)
+
+pub returns-in_err-totals : goal.returns-in_err-totals
+returns-in_err-totals c =
+    let p = err_from_is_err_and c.from_residual-in_err-totals.result c.from_residual-in_err-totals.ensures.1 in
+    rw (p.1, p.2) (flags-off c.args.trace.now c.args.plan.now (passed (goal.at.returns-in_err-totals c).In_ok-check) _ _
+    (rw c.flags.ensures at c.in_err-totals.ensures))
 
 pub returns-then-stated_cost-totals : goal.returns-then-stated_cost-totals
-returns-then-stated_cost-totals c = cost-off c.args.trace.now c.args.plan.now (passed (goal.at.returns-then-stated_cost-totals c).In_default) _ (done (goal.at.returns-then-stated_cost-totals c).In-Done) _ c.stated_cost.ensures c.if-stated_cost-totals.true
+returns-then-stated_cost-totals c =
+    cost-off c.args.trace.now c.args.plan.now (passed (goal.at.returns-then-stated_cost-totals c).In_ok-check) _
+    (done (goal.at.returns-then-stated_cost-totals c).In_ok-totals) _ c.stated_cost.ensures c.if-stated_cost-totals.true
 
-pub returns-in-Refused-replay : goal.returns-in-Refused-replay
-returns-in-Refused-replay c = flags-off c.args.trace.now c.args.plan.now (passed (goal.at.returns-in-Refused-replay c).In_default) _ _ (rw (c.in-Refused-replay.is, c.flags.ensures) at c.replay.ensures)
+pub returns-in_err-check_rents : goal.returns-in_err-check_rents
+returns-in_err-check_rents c =
+    let h = passed (goal.at.returns-in_err-check_rents c).In_ok-check in
+    let p = err_from_is_err_and c.from_residual-in_err-check_rents.result c.from_residual-in_err-check_rents.ensures.1 in
+    rw (p.1, p.2) (rents_off c.args.trace.now c.args.plan.now h _ (done (goal.at.returns-in_err-check_rents c).In_ok-totals) _
+    c.stated_cost.ensures c.if-stated_cost-totals.false _ _ (rw (c.rents.ensures h) at c.in_err-check_rents.ensures))
 
-pub returns-in-Refused-tried : goal.returns-in-Refused-tried
-returns-in-Refused-tried c =
-    rents_off c.args.trace.now c.args.plan.now (passed (goal.at.returns-in-Refused-tried c).In_default) _ (done (goal.at.returns-in-Refused-tried c).In-Done) _ c.stated_cost.ensures c.if-stated_cost-totals.false _ _
-    (rw c.in-Refused-tried.is at c.tried.ensures)
-
-pub returns-in-Sound : goal.returns-in-Sound
-returns-in-Sound c =
-    audit-done c.args.trace.now c.args.plan.now (passed (goal.at.returns-in-Sound c).In_default) _ (done (goal.at.returns-in-Sound c).In-Done) _ c.stated_cost.ensures c.if-stated_cost-totals.false
-    (rw c.in-Sound.is at c.tried.ensures)
+pub returns : goal.returns
+returns c =
+    let h = passed (goal.at.returns c).In_ok-check in
+    audit-done c.args.trace.now c.args.plan.now h _ (done (goal.at.returns c).In_ok-totals) _ c.stated_cost.ensures
+    c.if-stated_cost-totals.false (rw (c.rents.ensures h) at c.in_ok-check_rents.ensures)
