@@ -13,8 +13,8 @@ fn node(n: usize, s: u16, t: usize) -> u16
     ensures { result ≡ n + 1 + cond (ltb s n) s t }
 {
     let s = usize::from(s);
-    let held = if s < n { s } else { t };
-    (n + 1 + held) as u16
+    let request = if s < n { s } else { t };
+    (n + 1 + request) as u16
 }
 
 // The sources of the ways into all nodes.
