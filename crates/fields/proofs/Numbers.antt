@@ -1,6 +1,8 @@
--- Laws of numbers in bytes: past the end they are 0, a number splits into its halves, and k bytes hold it below 256 ^ k. Assumes nothing.
+-- Laws of numbers in bytes: past the end they are 0, and a number grows byte by byte from its last. Assumes nothing.
 use mathlib.Core.Path.{◌≡◌, refl}
-use Prim.Native.Nat.{ℕ, zero, suc, ◌+◌, ◌*◌, ◌≤◌}
+use Prim.Native.Nat.{ℕ, zero, suc, ◌+◌, ◌-◌, ◌*◌, ◌^◌, ◌≤◌, ◌<◌}
+use native.Mathlib.Nat.{pow-succ', pow-le-pow_right, one-le-pow}
+use native.Mathlib.Numerals.{add-one}
 use native.Mathlib.Omega.{arith}
 use mathlib.Core.List.{List}
 use lib.ListN.{length, get_or, get_or-eq_default}
@@ -12,15 +14,25 @@ unfolding num_at
 num_past zero at l h = refl
 num_past (suc k) at l h = omega (arith, get_or-eq_default l 0 h, num_past k (suc at) l (omega arith))
 
--- two, four and eight bytes are two halves
-pub num_two : (at : ℕ) (l : List ℕ) → num_at 2 at l ≡ get_or l at 0 + 256 * get_or l (at + 1) 0
+-- one byte more in front of a number whose last byte is not passed over
+pub num_more : (k size at : ℕ) (l : List ℕ) → k < size → num_at (k + 1) (at + (size - (k + 1))) l ≡ 256 * num_at k (at + (size - k)) l + get_or l (at + (size - 1 - k)) 0
 unfolding num_at
-num_two at l = let e : at + 1 ≡ suc at = omega arith in rw e (omega arith)
+num_more k size at l h =
+    let e : at + (size - k) ≡ suc (at + (size - suc k)) = omega arith in
+    let b : at + (size - 1 - k) ≡ at + (size - suc k) = omega arith in
+    let s : k + 1 ≡ suc k = omega arith in
+    rw (s, e, b) (omega arith)
 
-pub num_four : (at : ℕ) (l : List ℕ) → num_at 4 at l ≡ num_at 2 at l + 65536 * num_at 2 (at + 2) l
-unfolding num_at
-num_four at l = let e : at + 2 ≡ suc (suc at) = omega arith in rw e (omega arith)
+-- it stays below the next power
+pub more_below : (k n x : ℕ) → n < 256 ^ k → x < 256 → 256 * n + x < 256 ^ (k + 1)
+more_below k n x h b = rw add-one (omega (arith, pow-succ' 256 k))
 
-pub num_eight : (at : ℕ) (l : List ℕ) → num_at 8 at l ≡ num_at 4 at l + 4294967296 * num_at 4 (at + 4) l
-unfolding num_at
-num_eight at l = let e : at + 4 ≡ suc (suc (suc (suc at))) = omega arith in rw e (omega arith)
+-- which fits eight bytes up to the eighth
+pub more_fits : (k n x : ℕ) → k < 8 → n < 256 ^ k → x < 256 → 256 * n + x < 18446744073709551616
+more_fits k n x e h b =
+    let up : 256 ^ (k + 1) ≤ 256 ^ 8 = pow-le-pow_right {n = 256} (omega arith) {i = k + 1} {j = 8} (omega arith) in
+    omega (arith, more_below k n x h b, up)
+
+-- no power is 0
+pub below_some : (k : ℕ) → 0 < 256 ^ k
+below_some k = one-le-pow k 256 (omega arith)

@@ -18,6 +18,7 @@ use Rattle.model.proofs.Links.{next_is}
 use Rattle.trace.specs.TraceFile.{slots_at, requests_at, fill_at, kind_at, cost_at, rules_in, trace_in}
 use Rattle.trace.proofs.Sound.{reqs_length, req_at}
 use Rattle.floor.specs.Pass.{paid_to, Ready}
+use Rattle.floor.specs.declared.pass.Price.{Price}
 use Rattle.floor.proofs.Lists.{get_d_same, paid_top}
 use Rattle.floor.proofs.Backward.{paid_mono, rents_paid, drop_past, own_at, leasts_at, back, least_top}
 
@@ -28,22 +29,25 @@ own_in trace rents t b = own_at (rules_in trace) (rents_in rents) (trace_in trac
 abbrev pub leasts_in : (trace rents : List ℕ) → (t : ℕ) → ℕ
 leasts_in trace rents t = leasts_at (rules_in trace) (rents_in rents) (trace_in trace).reqs t
 
+-- past the last request nothing is to be paid, and all rents lie before
+abbrev pub past : (all : ℕ) → Price
+past all = record { out = 0; held = all }
+
 -- requests t and later are done
-pub record Passed (trace rents : List ℕ) (all : ℕ) (out held : List ℕ) (total paid t : ℕ) : Type 0 where
+pub record Passed (trace rents : List ℕ) (all : ℕ) (prices : List Price) (total paid t : ℕ) : Type 0 where
   pub upto : t ≤ requests_at trace
-  pub long_out : length out ≡ 1024
-  pub long_held : length held ≡ 1024
+  pub long : length prices ≡ 1024
   pub rest : paid ≡ paid_to (rents_in rents) t
-  pub outs : (u : ℕ) → t ≤ u → u ≤ requests_at trace → get_or out u 0 ≡ own_in trace rents u false
-  pub helds : (u : ℕ) → t ≤ u → u ≤ requests_at trace → get_or held u all ≡ own_in trace rents u true + paid_to (rents_in rents) u
+  pub outs : (u : ℕ) → t ≤ u → u ≤ requests_at trace → (get_or prices u (past all)).out ≡ own_in trace rents u false
+  pub helds : (u : ℕ) → t ≤ u → u ≤ requests_at trace → (get_or prices u (past all)).held ≡ own_in trace rents u true + paid_to (rents_in rents) u
   pub sum : total ≡ leasts_in trace rents t
   pub small : total + 1000000 * t ≤ 1000000 * requests_at trace
 
 -- the same of a request that has one before it
-pub at_suc : {trace rents : List ℕ} {all : ℕ} {out held : List ℕ} {total paid t : ℕ} → Passed trace rents all out held total paid t → 0 < t
-    → Passed trace rents all out held total paid (suc (t - 1))
-at_suc {trace} {rents} {all} {out} {held} {total} {paid} {t} p h =
-    let q : t ≡ suc (t - 1) = omega arith in subst (λ (k : ℕ). Passed trace rents all out held total paid k) q p
+pub at_suc : {trace rents : List ℕ} {all : ℕ} {prices : List Price} {total paid t : ℕ} → Passed trace rents all prices total paid t → 0 < t
+    → Passed trace rents all prices total paid (suc (t - 1))
+at_suc {trace} {rents} {all} {prices} {total} {paid} {t} p h =
+    let q : t ≡ suc (t - 1) = omega arith in subst (λ (k : ℕ). Passed trace rents all prices total paid k) q p
 
 module _ {trace rents next : List ℕ} (ready : Ready trace rents next) where
   -- no request's cost is above the limit
@@ -70,25 +74,30 @@ module _ {trace rents next : List ℕ} (ready : Ready trace rents next) where
 
   -- where the pass begins
   pub passed_start : {all : ℕ} → all ≡ paid_to (rents_in rents) (length rents)
-      → Passed trace rents all (replicate 1024 0) (replicate 1024 all) 0 all (requests_at trace)
+      → Passed trace rents all (replicate 1024 (past all)) 0 all (requests_at trace)
   passed_start {all} e =
       let n = requests_at trace in
       let z : drop n (trace_in trace).reqs ≡ [] = drop_past n (trace_in trace).reqs (omega (arith, reqs_length trace)) in
       let a : all ≡ paid_to (rents_in rents) n = rw (← ready.count) e in
       record {
         upto = omega arith;
-        long_out = length-replicate {A = ℕ} 1024 0;
-        long_held = length-replicate {A = ℕ} 1024 all;
+        long = length-replicate {A = Price} 1024 (past all);
         rest = a;
-        outs = λ u l m. let q : u ≡ n = omega arith in get_d_same 1024 u 0 ∙ sym (rw q (own_end false));
-        helds = λ u l m. let q : u ≡ n = omega arith in get_d_same 1024 u all ∙ (rw q (omega (arith, own_end true)));
+        outs = λ u l m. let q : u ≡ n = omega arith in ap (λ (p : Price). p.out) (get_d_same 1024 u (past all)) ∙ sym (rw q (own_end false));
+        helds = λ u l m. let q : u ≡ n = omega arith in ap (λ (p : Price). p.held) (get_d_same 1024 u (past all)) ∙ (rw q (omega (arith, own_end true)));
         sum = rw z;
         small = omega arith;
       }
 
   -- one more request, number t: its rent x, its next u, and what the lists hold there
-  module _ {all : ℕ} {out held : List ℕ} {total paid t x u none h : ℕ} (p : Passed trace rents all out held total paid (suc t))
-      (ex : x ≡ get_or rents t 0) (eu : u ≡ get_or next t 0) (en : none ≡ get_or out u 0) (eh : h ≡ get_or held u all) where
+  module _ {all : ℕ} {prices : List Price} {after : Price} {total paid t x u : ℕ} (p : Passed trace rents all prices total paid (suc t))
+      (ex : x ≡ get_or rents t 0) (eu : u ≡ get_or next t 0) (ea : after ≡ get_or prices u (past all)) where
+    en : after.out ≡ (get_or prices u (past all)).out
+    en = ap (λ (p : Price). p.out) ea
+
+    eh : after.held ≡ (get_or prices u (past all)).held
+    eh = ap (λ (p : Price). p.held) ea
+
     next-eq : u ≡ next_of (trace_in trace).reqs t
     next-eq = eu ∙ ready.nexts t p.upto
 
@@ -97,18 +106,18 @@ module _ {trace rents next : List ℕ} (ready : Ready trace rents next) where
       pub gap : t < length rents
       pub rent : x ≤ paid
       pub left : paid - x ≡ paid_to (rents_in rents) t
-      pub none_is : none ≡ own_in trace rents u false
-      pub held-is : h ≡ own_in trace rents u true + paid_to (rents_in rents) u
-      pub below : paid - x ≤ h
-      pub none-top : none ≤ 1024000000
-      pub held_top : h ≤ 3072000000
+      pub none_is : after.out ≡ own_in trace rents u false
+      pub held-is : after.held ≡ own_in trace rents u true + paid_to (rents_in rents) u
+      pub below : paid - x ≤ after.held
+      pub none-top : after.out ≤ 1024000000
+      pub held_top : after.held ≤ 3072000000
       pub total-top : total ≤ 1024000000
 
     pub due : Due
     due =
         let (a, b) = rw (← eu) at (next_range t p.upto) in
-        let v = p.outs u a b in
-        let w = p.helds u a b in
+        let v : after.out ≡ own_in trace rents u false = en ∙ p.outs u a b in
+        let w : after.held ≡ own_in trace rents u true + paid_to (rents_in rents) u = eh ∙ p.helds u a b in
         let m = paid_mono (rents_in rents) t u (omega arith) in
         let q = paid_top rents 2000000 u ready.within in
         let f = own_top u false in
@@ -119,8 +128,8 @@ module _ {trace rents next : List ℕ} (ready : Ready trace rents next) where
           gap = omega (arith, p.upto, ready.count);
           rent = omega (arith, p.rest);
           left = omega (arith, p.rest);
-          none_is = en ∙ v;
-          held-is = eh ∙ w;
+          none_is = v;
+          held-is = w;
           below = omega (arith, p.rest);
           none-top = omega arith;
           held_top = omega arith;
@@ -129,13 +138,13 @@ module _ {trace rents next : List ℕ} (ready : Ready trace rents next) where
 
     -- the request's two prices, by the code's equations
     module _ {miss hold : ℕ}
-        (em : miss ≡ cond (eqb (kind_at trace t) 1) none (cost_at trace t + min none (fill_at trace + (h - (paid - x)))))
-        (eo : hold ≡ cond (eqb (kind_at trace t) 1) (cost_at trace t) 0 + min none (h - (paid - x))) where
+        (em : miss ≡ cond (eqb (kind_at trace t) 1) after.out (cost_at trace t + min after.out (fill_at trace + (after.held - (paid - x)))))
+        (eo : hold ≡ cond (eqb (kind_at trace t) 1) (cost_at trace t) 0 + min after.out (after.held - (paid - x))) where
       pub record Done : Type 0 where
         pub miss-is : miss ≡ own_in trace rents t false
         pub hold-is : hold ≡ own_in trace rents t true
-        pub sums : leasts_in trace rents t + none ≡ total + miss
-        pub miss-top : miss ≤ none + 1000000
+        pub sums : leasts_in trace rents t + after.out ≡ total + miss
+        pub miss-top : miss ≤ after.out + 1000000
         pub hold-top : hold ≤ 1024000000
 
       pub done : Done
@@ -144,7 +153,7 @@ module _ {trace rents next : List ℕ} (ready : Ready trace rents next) where
           let r = req_at trace t p.upto in
           let ew : (request_at (trace_in trace).reqs t).write ≡ eqb (kind_at trace t) 1 = ap (λ (q : Request). q.write) r in
           let ec : (request_at (trace_in trace).reqs t).cost ≡ cost_at trace t = ap (λ (q : Request). q.cost) r in
-          let k = back (rules_in trace) (rents_in rents) (trace_in trace).reqs t (omega (arith, reqs_length trace, p.upto)) (h - (paid - x))
+          let k = back (rules_in trace) (rents_in rents) (trace_in trace).reqs t (omega (arith, reqs_length trace, p.upto)) (after.held - (paid - x))
           (rw (← next-eq) (omega (arith, d.left, d.held-is, d.below))) in
           let o = rw (ew, ec, ← next-eq, ← d.none_is, ← em) at k.out in
           let i = rw (ew, ec, ← next-eq, ← d.none_is, ← eo) at k.kept in
@@ -158,30 +167,29 @@ module _ {trace rents next : List ℕ} (ready : Ready trace rents next) where
             hold-top = le_trans (rw i (omega arith)) (own_top t true);
           }
 
-      pub passed-step : Passed trace rents all (set out t miss) (set held t (hold + (paid - x))) (total + miss - none) (paid - x) t
+      pub passed-step : Passed trace rents all (set prices t (record { out = miss; held = hold + (paid - x) })) (total + miss - after.out) (paid - x) t
       passed-step =
           let d = due in
           let k = done in
           record {
             upto = omega (arith, p.upto);
-            long_out = simp length-set p.long_out;
-            long_held = simp length-set p.long_held;
+            long = simp length-set p.long;
             rest = d.left;
             outs = λ v l m. elim (dec_lt t v) [
-              | yes z ↦ get_or-set_other out t v miss 0 (λ q. omega arith) ∙ p.outs v z m
-              | no z ↦ let q : v ≡ t = omega arith in rw q (get_or-set_same out t miss 0 (omega (arith, p.long_out, d.place)) ∙ k.miss-is)
+              | yes z ↦ ap (λ (p : Price). p.out) (get_or-set_other prices t v (record { out = miss; held = hold + (paid - x) }) (past all) (λ q. omega arith)) ∙ p.outs v z m
+              | no z ↦ let q : v ≡ t = omega arith in rw q (ap (λ (p : Price). p.out) (get_or-set_same prices t (record { out = miss; held = hold + (paid - x) }) (past all) (omega (arith, p.long, d.place))) ∙ k.miss-is)
             ];
             helds = λ v l m. elim (dec_lt t v) [
-              | yes z ↦ get_or-set_other held t v _ all (λ q. omega arith) ∙ p.helds v z m
+              | yes z ↦ ap (λ (p : Price). p.held) (get_or-set_other prices t v (record { out = miss; held = hold + (paid - x) }) (past all) (λ q. omega arith)) ∙ p.helds v z m
               | no z ↦ let q : v ≡ t = omega arith in
-                  rw q (get_or-set_same held t _ all (omega (arith, p.long_held, d.place)) ∙ omega (arith, k.hold-is, d.left))
+                  rw q (ap (λ (p : Price). p.held) (get_or-set_same prices t (record { out = miss; held = hold + (paid - x) }) (past all) (omega (arith, p.long, d.place))) ∙ omega (arith, k.hold-is, d.left))
             ];
             sum = omega (arith, k.sums);
             small = omega (arith, k.sums, k.miss-top, p.small);
           }
 
 -- where the pass ends the sum is that of all items
-pub passed_all : {trace rents : List ℕ} {all : ℕ} {out held : List ℕ} {total paid : ℕ} → Passed trace rents all out held total paid 0
+pub passed_all : {trace rents : List ℕ} {all : ℕ} {prices : List Price} {total paid : ℕ} → Passed trace rents all prices total paid 0
     → total ≡ leasts (trace_in trace) (rents_in rents)
 unfolding leasts
 passed_all p = p.sum

@@ -10,20 +10,6 @@ ghost use Rattle.floor.specs.Pass.{paid_to, Ready};
 use crate::Pair;
 use model::Requests;
 
-// What stands at a place of a list, or `past` beyond its end.
-pub fn at(list: &[u64], u: usize, past: u64) -> u64
-    ensures { result ≡ get_or list.now u past }
-{
-    if u < list.len() { list[u] } else { past }
-}
-
-// The lesser of two prices.
-pub fn lesser(a: u64, b: u64) -> u64
-    ensures { result ≡ min a b }
-{
-    if a < b { a } else { b }
-}
-
 // The price from just before request t, its item not held: `none` if it is not held after it, `kept` the price of holding it then.
 pub fn from_out(trace: &[u8], t: usize, none: u64, kept: u64) -> u64
     requires { (none < 4294967296) × (kept < 4294967296) }
@@ -32,7 +18,7 @@ pub fn from_out(trace: &[u8], t: usize, none: u64, kept: u64) -> u64
     if trace::kind(trace, t) == 1 {
         return none;
     }
-    trace::cost(trace, t) + lesser(none, trace::fill(trace) + kept)
+    trace::cost(trace, t) + none.min(trace::fill(trace) + kept)
 }
 
 // The same with its item held: a write hit is paid for, and then it may be dropped.
@@ -41,47 +27,47 @@ pub fn from_in(trace: &[u8], t: usize, none: u64, kept: u64) -> u64
     ensures { result ≡ cond (eqb (kind_at trace.now t) 1) (cost_at trace.now t) 0 + min none kept }
 {
     if trace::kind(trace, t) != 1 {
-        return lesser(none, kept);
+        return none.min(kept);
     }
-    trace::cost(trace, t) + lesser(none, kept)
+    trace::cost(trace, t) + none.min(kept)
 }
 
 // The sum of all rents.
+#[tactic(auto, using(crate::proofs::Lists::paid_sum))]
 pub fn paid(rents: &[u32]) -> u64
-    requires { (length rents.now ≤ 1024) × ((t : ℕ) → get_or rents.now t 0 ≤ 2000000) }
+    requires { length rents.now ≤ 1024 }
     ensures { result ≡ paid_to (rents_in rents.now) (length rents.now) }
 {
-    let mut sum: u64 = 0;
-    let mut t: usize = 0;
-    while t < rents.len() {
-        sum += rents[t] as u64;
-        t += 1;
-    }
-    sum
+    rents.iter().map(|rent| u64::from(*rent)).sum()
 }
 
-// The least prices of the items, added up; `all` is the sum of all rents. The lists hold, for each request passed, the price from
-// just before it with its item not held, and the price with it held and the rents of all gaps up to there.
+// The price from just before a request with its item not held, and the price with it held and the rents of all gaps up to there.
+#[derive(Clone, Copy)]
+pub struct Price {
+    pub out: u64,
+    pub held: u64,
+}
+
+// The least prices of the items, added up; `all` is the sum of all rents. The list holds the prices of each request passed.
 pub fn leasts(trace: &[u8], rents: &[u32], next: &[u16; Requests::MAX], all: u64) -> u64
     requires { Ready trace.now rents.now next.now × (all ≡ paid_to (rents_in rents.now) (length rents.now)) }
     ensures { result ≡ leastsOf (trace_in trace.now) (rents_in rents.now) }
 {
-    let mut out = [0u64; Requests::MAX];
-    let mut held = [all; Requests::MAX];
+    let past = Price { out: 0, held: all };
+    let mut prices = [past; Requests::MAX];
     let mut total: u64 = 0;
     let mut paid = all;
-    let mut t = trace::requests(trace);
-    while 0 < t {
-        t -= 1;
-        let before = paid - rents[t] as u64;
-        let u = next[t] as usize;
-        let none = at(&out, u, 0);
-        let kept = at(&held, u, all) - before;
-        let miss = from_out(trace, t, none, kept);
-        let hold = from_in(trace, t, none, kept);
-        total = total + miss - none;
-        out[t] = miss;
-        held[t] = hold + before;
+    for t in (0..trace::requests(trace)).rev() {
+        let before = paid - u64::from(rents[t]);
+        let after = prices.get(usize::from(next[t])).copied().unwrap_or(past);
+        let kept = after.held - before;
+        let miss = from_out(trace, t, after.out, kept);
+        let hold = from_in(trace, t, after.out, kept);
+        total = total + miss - after.out;
+        prices[t] = Price {
+            out: miss,
+            held: hold + before,
+        };
         paid = before;
     }
     total

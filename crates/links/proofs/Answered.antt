@@ -8,15 +8,14 @@ use Rattle.model.specs.Numbers.{max_requests}
 use Rattle.model.specs.Model.{Request}
 use Rattle.model.specs.Plans.{request_at}
 use Rattle.model.specs.Links.{next_of, prev_of, listed}
-use Rattle.model.specs.Refusals.{Tried, passes}
+use Rattle.std.specs.Prelude.{Result, Ok}
+use Rattle.model.specs.Refusals.{Tried, passes, answered}
 use Rattle.model.specs.declared.Refusal.{Refusal}
 use Rattle.model.proofs.Links.{length-listed, get_d_listed}
-use Rattle.model.proofs.Refusals.{answer_fine, answer_refused}
+use Rattle.model.proofs.Refusals.{answer_fine}
 use Rattle.trace.specs.TraceFile.{requests_at, trace_tried, trace_in}
-use Rattle.trace.specs.Answers.{said, check_of, header_in}
+use Rattle.trace.specs.Answers.{check_of, header_in}
 use Rattle.trace.specs.declared.Header.{Header}
-use Rattle.trace.specs.declared.Checked.{Checked}
-use Rattle.trace.specs.declared.Checked.TheVariants.{Sound, Refused}
 use Rattle.trace.proofs.Sound.{sound_trace, reqs_length, req_at, check_unique}
 use Rattle.links.specs.Linked.{nexts, prevs, laid, nexts_in, prevs_in}
 use Rattle.links.specs.Promise.{Filled}
@@ -27,16 +26,9 @@ use Rattle.links.proofs.Fills.{front, nexts-are, next-of-one, prevs-are}
 laid_front : (t : Tried) (n : ℕ) (new old : List ℕ) → t ≡ passes → length new ≡ n → laid t new old ≡ new ++ drop n old
 laid_front t n new old e l = rw (e, l)
 
--- ---- a trace that is refused
-
-pub filled_refused : (tr next prev : List ℕ) (r : Refusal) → said (Refused r) ≡ check_of tr → Filled tr next prev (Refused r) next prev
-filled_refused tr next prev r e =
-    let k = answer_refused (trace_tried tr) (header_in tr) r.number r.place e in
-    record { answer = e; nexts = rw k; prevs = rw k }
-
 -- ---- a sound one
 
-module _ (tr : List ℕ) (h : Header) (e : said (Sound h) ≡ check_of tr) where
+module _ (tr : List ℕ) (h : Header) (e : answered (Ok h) ≡ check_of tr) where
   passed : trace_tried tr ≡ passes
   passed = (answer_fine (trace_tried tr) (header_in tr) h e).0
 
@@ -65,7 +57,7 @@ module _ (tr : List ℕ) (h : Header) (e : said (Sound h) ≡ check_of tr) where
 
     pub filled-sound : {next prev next' chain clear prev' : List ℕ} → NextsLaid items h.requests next prev next' chain
         → Cleared h.requests chain clear → Turned h.requests next' clear prev'
-        → h.requests ≤ length next' → h.requests ≤ length prev' → Filled tr next prev (Sound h) next' prev'
+        → h.requests ≤ length next' → h.requests ≤ length prev' → Filled tr next prev (Ok h) next' prev'
     filled-sound {next} {prev} {next'} {chain} {clear} {prev'} l c t a b =
         let rs = (trace_in tr).reqs in
         let n = h.requests in
@@ -100,7 +92,7 @@ prev_at tr old t e l = rw e (at_front (prev_of (trace_in tr).reqs) (length (trac
 -- ---- one outcome
 
 -- any two answers and lent lists that the promise permits coincide
-pub links_unique : {trace next prev : List ℕ} {r s : Checked} {next₁ prev₁ next₂ prev₂ : List ℕ}
+pub links_unique : {trace next prev : List ℕ} {r s : Result Header Refusal} {next₁ prev₁ next₂ prev₂ : List ℕ}
     → Filled trace next prev r next₁ prev₁ → Filled trace next prev s next₂ prev₂ → (r ≡ s) × (next₁ ≡ next₂) × (prev₁ ≡ prev₂)
 links_unique {trace} {next} {prev} {r} {s} a b =
     (check_unique r s (check_of trace) a.answer b.answer, a.nexts ∙ sym b.nexts, a.prevs ∙ sym b.prevs)

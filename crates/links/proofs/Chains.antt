@@ -1,6 +1,6 @@
 -- The walk along a chain, and the chains' growth from the last request to the first. Assumes nothing.
-use mathlib.Core.Path.{◌≡◌, refl, sym, ◌∙◌, ap, subst}
-use Prim.Native.Nat.{ℕ, suc, ◌≤◌, ◌<◌, ◌-◌, ◌%◌}
+use mathlib.Core.Path.{◌≡◌, refl, sym, ◌∙◌, subst}
+use Prim.Native.Nat.{ℕ, suc, ◌≤◌, ◌<◌, ◌-◌}
 use native.Mathlib.Omega.{arith}
 use native.Mathlib.Nat.{mod-lt}
 use native.Mathlib.Decide.{dec_lt}
@@ -11,7 +11,7 @@ use lib.Dec.{eqb}
 use borrow.Author.Tests.{eqb-true, eqb-false}
 use Rattle.model.specs.Numbers.{max_requests}
 use Rattle.model.proofs.Sums.{split}
-use Rattle.links.specs.Chains.{First, item_in, bucket_in, Chained, Nexts, Heads, Room, Ready, NextsLaid}
+use Rattle.links.specs.Chains.{First, item_in, bucket_in, Chained, Nexts, Heads, Room}
 
 -- the walk for the next request of t has come to j: j is in t's bucket, and t's item is not asked for before j
 pub record Walking (items : List ℕ) (n t item j : ℕ) : Type 0 where
@@ -20,41 +20,6 @@ pub record Walking (items : List ℕ) (n t item j : ℕ) : Type 0 where
   pub upto : j ≤ n
   pub has : j < n → bucket_in items n j ≡ bucket_in items n t
   pub none : (s : ℕ) → suc t ≤ s → s < j → item_in items s ≡ item_in items t → ⊥
-
-module _ {items chain : List ℕ} {n t : ℕ} where
-  pub walk_starts : {start : ℕ} → Ready items chain n t start → Walking items n t (item_in items t) start
-  walk_starts r = record {
-    same = refl;
-    from = r.first.from;
-    upto = r.first.upto;
-    has = r.first.has;
-    none = λ s l m e. r.first.none s l m (ap (λ (i : ℕ). i % n) e);
-  }
-
-  pub walk_steps : {start item j : ℕ} → Ready items chain n t start → Walking items n t item j → j < n
-      → (item_in items j ≡ item → ⊥) → Walking items n t item (get_or chain j 0)
-  walk_steps {start} {item} {j} r w l other =
-      let k = r.chained.on j w.from l in
-      record {
-        same = w.same;
-        from = omega (arith, k.from, w.from);
-        upto = k.upto;
-        has = λ m. k.has m ∙ w.has l;
-        none = λ s a b e. elim (dec_lt s j) [
-          | yes y ↦ w.none s a y e
-          | no y ↦ elim (dec_lt j s) [
-            | yes z ↦ k.none s z b (ap (λ (i : ℕ). i % n) e ∙ sym (w.has l))
-            | no z ↦ let q : s ≡ j = omega arith in other ((rw q at e) ∙ sym w.same)
-          ]
-        ];
-      }
-
-module _ {items : List ℕ} {n t item j : ℕ} (w : Walking items n t item j) where
-  pub walk_finds : item_in items j ≡ item → First (item_in items) n (item_in items t) (suc t) j
-  walk_finds e = record { from = w.from; upto = w.upto; has = λ l. e ∙ w.same; none = w.none }
-
-  pub walk_ends : n ≤ j → First (item_in items) n (item_in items t) (suc t) j
-  walk_ends e = record { from = w.from; upto = w.upto; has = λ l. absurd (omega arith); none = w.none }
 
 -- the requests from t on are chained and have their next requests; past n the lent lists are kept
 pub record Linking (items next₀ chain₀ head next chain : List ℕ) (n t : ℕ) : Type 0 where
@@ -118,16 +83,6 @@ module _ {items next₀ chain₀ head next chain : List ℕ} {n t : ℕ} (room :
   in_bucket : bucket_in items n t < n
   in_bucket = mod-lt (item_in items t) (omega (arith, w.upto))
 
-  pub link_ready : Ready items chain n t (get_or head (bucket_in items n t) 0)
-  unfolding below in_bucket
-  link_ready = record {
-    all_items = room.all_items;
-    all_chain = omega (arith, room.all_chain, w.long_chain);
-    here = below;
-    first = w.heads.on (bucket_in items n t) in_bucket;
-    chained = w.chained;
-  }
-
   pub link_steps : (m : ℕ) → First (item_in items) n (item_in items t) (suc t) m
       → Linking items next₀ chain₀ (set head (bucket_in items n t) t) (set next t m) (set chain t (get_or head (bucket_in items n t) 0)) n t
   unfolding below in_bucket
@@ -173,9 +128,3 @@ pub link_back : {items next₀ chain₀ head next chain : List ℕ} {n t : ℕ} 
     → Linking items next₀ chain₀ head next chain n (suc (t - 1))
 link_back {items} {next₀} {chain₀} {head} {next} {chain} {n} {t} w l =
     subst (λ (x : ℕ). Linking items next₀ chain₀ head next chain n x) (omega arith) w
-
--- none is left to look at
-pub link_ends : {items next₀ chain₀ head next chain : List ℕ} {n t : ℕ} → Linking items next₀ chain₀ head next chain n t → t ≤ 0
-    → NextsLaid items n next₀ chain₀ next chain
-link_ends {items} {next₀} {chain₀} {head} {next} {chain} {n} {t} w l =
-    let q : t ≡ 0 = omega arith in record { nexts = rw q at w.nexts; kept = w.kept; rest = w.rest }

@@ -4,22 +4,15 @@ ghost use Rattle.links.specs.Chains.{First, item_in, bucket_in, Room, Ready, Nex
 
 use model::Requests;
 
-// A number of a list, as a place.
-pub fn wide(x: u16) -> usize
-    ensures { result ≡ x }
-{
-    x as usize
-}
-
 // The bucket of t's item.
 pub fn bucket(items: &[u16], n: usize, t: usize) -> usize
     requires { (t < n) × (n ≤ length items.now) }
     ensures { (result ≡ bucket_in items.now n t) × (result < n) }
 {
-    wide(items[t]) % n
+    usize::from(items[t]) % n
 }
 
-// The next request of t's item, by a walk along the chain from `start`.
+// The next request of t's item, by a walk along the chain from `start`: the chain says where the loop goes on, and no range does.
 pub fn walk(items: &[u16], chain: &[u16], n: usize, t: usize, start: usize) -> usize
     requires { Ready items.now chain.now n t start }
     ensures { First (item_in items.now) n (item_in items.now t) (suc t) result }
@@ -30,7 +23,7 @@ pub fn walk(items: &[u16], chain: &[u16], n: usize, t: usize, start: usize) -> u
         if items[j] == item {
             return j;
         }
-        j = wide(chain[j]);
+        j = usize::from(chain[j]);
     }
     j
 }
@@ -41,12 +34,10 @@ pub fn link(items: &[u16], n: usize, next: &mut [u16], chain: &mut [u16])
     ensures { NextsLaid items.now n next.old chain.old next.new chain.new }
 {
     let mut head = [n as u16; Requests::MAX];
-    let mut t = n;
-    while 0 < t {
-        t -= 1;
+    for t in (0..n).rev() {
         let b = bucket(items, n, t);
         let j = head[b];
-        let m = walk(items, chain, n, t, wide(j));
+        let m = walk(items, chain, n, t, usize::from(j));
         next[t] = m as u16;
         chain[t] = j;
         head[b] = t as u16;

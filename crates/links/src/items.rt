@@ -11,10 +11,8 @@ pub fn read(trace: &[u8], n: usize) -> [u16; Requests::MAX]
     ensures { Read trace.now result n }
 {
     let mut items = [0u16; Requests::MAX];
-    let mut t = 0;
-    while t < n {
+    for t in 0..n {
         items[t] = trace::item(trace, t) as u16;
-        t += 1;
     }
     items
 }

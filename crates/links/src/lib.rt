@@ -1,33 +1,49 @@
-// The next and the previous request of the same item, for each request of a trace, in lists of at most n numbers.
+// The next and the previous request of the same item, for each request of a trace.
 #![tactic(auto)]
 
+ghost use Rattle.std.specs.Prelude.{◌≡◌, replicate};
+ghost use Rattle.model.specs.Numbers.{max_requests};
 ghost use Rattle.links.specs.Promise.{Filled};
 
-use model::Requests;
-use trace::Checked;
+use model::{Refusal, Requests};
+use trace::Header;
 
 mod chain;
 mod items;
 mod turn;
 
-// Of a sound trace the first n places have each request's next and previous request of the same item, counted from 0, or n for none;
-// the rest is kept. Of any other all is kept.
-#[inline(always)]
-pub fn fill(
-    trace: &[u8],
-    next: &mut [u16; Requests::MAX],
-    prev: &mut [u16; Requests::MAX],
-) -> Checked
-    ensures { Filled trace.now next.old prev.old result next.new prev.new }
-{
-    let checked = trace::check(trace);
-    let Checked::Sound(h) = checked else {
-        return checked;
-    };
-    let n = h.requests;
-    let items = items::read(trace, n);
-    chain::link(&items, n, next, prev);
-    turn::clear(n, prev);
-    turn::turn(n, next, prev);
-    checked
+// The two lists of a trace of n requests: their first n places have each request's next and previous request of the same item,
+// counted from 0, or n for none.
+#[derive(Drop)]
+pub struct Links {
+    pub next: [u16; Requests::MAX],
+    pub prev: [u16; Requests::MAX],
+}
+
+impl Links {
+    // Lists that are to be filled. It is inlined, so that the caller's lists are made in place.
+    #[inline(always)]
+    pub fn new() -> Self
+        ensures { (result.next ≡ replicate max_requests 0) × (result.prev ≡ replicate max_requests 0) }
+    {
+        Links {
+            next: [0; Requests::MAX],
+            prev: [0; Requests::MAX],
+        }
+    }
+
+    // Fills the lists for a sound trace, and keeps the rest of them. Of any other all is kept. It is inlined, since its own lists
+    // would else need more of the stack than a program has left.
+    #[inline(always)]
+    pub fn fill(&mut self, trace: &[u8]) -> Result<Header, Refusal>
+        ensures { Filled trace.now self.old.next self.old.prev result self.new.next self.new.prev }
+    {
+        let header = trace::check(trace)?;
+        let n = header.requests;
+        let items = items::read(trace, n);
+        chain::link(&items, n, &mut self.next, &mut self.prev);
+        turn::clear(n, &mut self.prev);
+        turn::turn(n, &self.next, &mut self.prev);
+        Ok(header)
+    }
 }

@@ -1,5 +1,5 @@
 -- Laws of the rows 9 to 12 and 17: what is known where none of them holds, and that an answer is the only one. Assumes nothing.
-use mathlib.Core.Path.{◌≡◌, refl, ◌∙◌, ap}
+use mathlib.Core.Path.{◌≡◌, refl}
 use Prim.Native.Nat.{ℕ, zero, suc, ◌+◌, ◌*◌, ◌≤◌}
 use native.Mathlib.Omega.{arith}
 use mathlib.Core.Bool.{true, not}
@@ -11,8 +11,9 @@ use Rattle.model.proofs.Refusals.{row_passes, both_true}
 use Rattle.fields.specs.Bytes.{num_at, stand_at}
 use Rattle.model.specs.Numbers.{max_rent}
 use Rattle.model.specs.Refusals.{Tried, passes, said}
-use Rattle.model.specs.declared.Outcome.{Outcome}
-use Rattle.model.specs.declared.Outcome.TheVariants.{Sound, Refused}
+use Rattle.std.proofs.Common.{Result}
+use Rattle.model.specs.declared.Refusal.{Refusal}
+use Rattle.model.proofs.Refusals.{said_unique}
 use Rattle.plan.specs.PlanFile.{shape_of, length_of, marked_plan, plan_tried, rents_tried}
 
 -- ---- rows 9 to 12
@@ -71,12 +72,5 @@ sound_rents t (p ∷ ps) h = rw (le-ltb max_rent p (h 0)) (sound_rents (suc t) p
 -- ---- one answer
 
 -- two outcomes that say the same are the same
-pub refusal_unique : (a b : Outcome) (x : Tried) → said a ≡ x → said b ≡ x → a ≡ b
-refusal_unique Sound Sound x p q = refl
-refusal_unique Sound (Refused r) x p q = let z : ◌≡◌ {A = ℕ} 0 1 = cc in absurd (omega arith)
-refusal_unique (Refused r) Sound x p q = let z : ◌≡◌ {A = ℕ} 0 1 = cc in absurd (omega arith)
-refusal_unique (Refused r) (Refused s) x p q =
-    let e : r.number ≡ s.number = cc in
-    let f : r.place ≡ s.place = cc in
-    ap (λ (n : ℕ). Refused (record { number = n; place = r.place })) e
-    ∙ ap (λ (n : ℕ). Refused (record { number = s.number; place = n })) f
+pub refusal_unique : (a b : Result Unit Refusal) (x : Tried) → said a ≡ x → said b ≡ x → a ≡ b
+refusal_unique = said_unique

@@ -7,29 +7,36 @@ ghost use Rattle.model.specs.Refusals.{said};
 ghost use Rattle.plan.specs.PlanFile.{stated_at, rent_in, section_tried, flags_of, rents_of, rents_tried};
 ghost use Rattle.plan.specs.Reading.{rents_into};
 
-use model::{Outcome, Refusal, Rent};
-use trace::Checked;
+use model::{Refusal, Rent, Requests};
 
 mod rows;
 
+// How many bytes stand before the flags.
+pub const HEAD: usize = 16;
+
+// How many bytes a rent has.
+pub const RENT: usize = 4;
+
+// A byte more than the longest sound plan has, so that a longer file is seen to be too long.
+pub const ROOM: usize = 5 * Requests::MAX + 17;
+
 // The first of refusals 1 to 12 that holds of a trace and a plan.
-pub fn refusal(trace: &[u8], plan: &[u8]) -> Outcome
+#[tactic(auto, unfolding(crate::specs::PlanFile::section_tried))]
+pub fn check(trace: &[u8], plan: &[u8]) -> Result<(), Refusal>
     ensures { said result ≡ section_tried trace.now plan.now }
 {
-    match trace::check(trace) {
-        Checked::Refused(r) => Outcome::Refused(r),
-        Checked::Sound(_) => rows::tried(trace::requests(trace), plan),
-    }
+    trace::check(trace)?;
+    rows::tried(trace::requests(trace), plan)
 }
 
 // The flags, a byte each: a part of the plan, and the empty part with a refusal.
 pub fn flags<'a>(trace: &[u8], plan: &'a [u8]) -> &'a [u8]
     ensures { result.now ≡ flags_of trace.now plan.now }
 {
-    match refusal(trace, plan) {
-        Outcome::Refused(_) => &plan[..0],
-        Outcome::Sound => {
-            let start = rows::Head::SIZE;
+    match check(trace, plan) {
+        Err(_) => &plan[..0],
+        Ok(()) => {
+            let start = HEAD;
             let end = start + trace::requests(trace);
             &plan[start..end]
         }
@@ -40,10 +47,10 @@ pub fn flags<'a>(trace: &[u8], plan: &'a [u8]) -> &'a [u8]
 pub fn rents<'a>(trace: &[u8], plan: &'a [u8]) -> &'a [u8]
     ensures { result.now ≡ rents_of trace.now plan.now }
 {
-    match refusal(trace, plan) {
-        Outcome::Refused(_) => &plan[..0],
-        Outcome::Sound => {
-            let start = rows::Head::SIZE + trace::requests(trace);
+    match check(trace, plan) {
+        Err(_) => &plan[..0],
+        Ok(()) => {
+            let start = HEAD + trace::requests(trace);
             &plan[start..]
         }
     }
@@ -53,7 +60,7 @@ pub fn rents<'a>(trace: &[u8], plan: &'a [u8]) -> &'a [u8]
 pub fn stated_cost(plan: &[u8]) -> u64
     ensures { result ≡ stated_at plan.now }
 {
-    fields::u64_at(plan, 8)
+    fields::number_at::<8>(plan, 8)
 }
 
 // The flag of request t, counted from 0.
@@ -63,7 +70,7 @@ pub fn flag(plan: &[u8], t: usize) -> u64
     if plan.len() <= t {
         0
     } else {
-        fields::byte_at(plan, rows::Head::SIZE + t)
+        fields::byte_at(plan, HEAD + t)
     }
 }
 
@@ -71,10 +78,10 @@ pub fn flag(plan: &[u8], t: usize) -> u64
 pub fn rent(part: &[u8], t: usize) -> u64
     ensures { (result ≡ rent_in part.now t) × (result < 4294967296) }
 {
-    if part.len() / rows::Rents::SIZE < t {
+    if part.len() / RENT < t {
         0
     } else {
-        fields::u32_at(part, rows::Rents::SIZE * t)
+        fields::number_at::<4>(part, RENT * t)
     }
 }
 
@@ -82,27 +89,20 @@ pub fn rent(part: &[u8], t: usize) -> u64
 pub fn read_rents(part: &[u8], out: &mut [u32])
     ensures { out.new ≡ rents_into part.now out.old }
 {
-    let n = rows::fewer(part.len() / rows::Rents::SIZE, out.len());
-    let mut t: usize = 0;
-    while t < n {
+    let n = out.len().min(part.len() / RENT);
+    for t in 0..n {
         out[t] = rent(part, t) as u32;
-        t += 1;
     }
 }
 
 // Refusal 17 at the first gap whose rent is too large.
-pub fn rents_refusal(rents: &[u32]) -> Outcome
+pub fn check_rents(rents: &[u32]) -> Result<(), Refusal>
     ensures { said result ≡ rents_tried 0 rents.now }
 {
-    let mut t: usize = 0;
-    while t < rents.len() {
-        if Rent::MAX < rents[t] as u64 {
-            return Outcome::Refused(Refusal {
-                number: 17,
-                place: t as u64 + 1,
-            });
+    for (t, rent) in rents.iter().enumerate() {
+        if Rent::MAX < u64::from(*rent) {
+            return Err(Refusal::Rent(t as u64 + 1));
         }
-        t += 1;
     }
-    Outcome::Sound
+    Ok(())
 }

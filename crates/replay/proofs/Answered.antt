@@ -6,10 +6,11 @@ use lib.ListN.{length}
 use borrow.Author.Tests.{eq-eqb, ne_eqb}
 use Rattle.model.specs.Refusals.{passes, refusal, fine, refused}
 use Rattle.model.proofs.Refusals.{answer_fine, answer_refused}
+use Rattle.std.specs.Prelude.{Result}
+use Rattle.model.specs.declared.Refusal.{Refusal}
 use Rattle.trace.specs.TraceFile.{requests_at, trace_tried, trace_in}
 use Rattle.trace.specs.Answers.{header_in, check_of}
 use Rattle.trace.specs.declared.Header.{Header}
-use Rattle.trace.specs.declared.Checked.{Checked}
 use Rattle.trace.proofs.Sound.{sound_trace}
 use Rattle.links.specs.Promise.{Filled}
 use Rattle.links.proofs.Answered.{next_at, prev_at}
@@ -20,8 +21,12 @@ use Rattle.replay.specs.Linked.{Forward}
 pub check_passes : (tr : List ℕ) (h : Header) → fine h ≡ check_of tr → trace_tried tr ≡ passes
 check_passes tr h e = (answer_fine (trace_tried tr) (header_in tr) h e).0
 
+-- and the head has the number of its requests
+pub check_counts : (tr : List ℕ) (h : Header) → fine h ≡ check_of tr → h.requests ≡ requests_at tr
+check_counts tr h e = ap (λ (x : Header). x.requests) (answer_fine (trace_tried tr) (header_in tr) h e).1
+
 -- the lists that are filled say the next and the previous request of each
-pub filled_forward : {tr flags old-next old-prev nexts prevs : List ℕ} {r : Checked} → Filled tr old-next old-prev r nexts prevs
+pub filled_forward : {tr flags old-next old-prev nexts prevs : List ℕ} {r : Result Header Refusal} → Filled tr old-next old-prev r nexts prevs
     → trace_tried tr ≡ passes → length flags ≡ requests_at tr → Forward tr flags nexts prevs
 filled_forward {tr} {flags} {old-next} {old-prev} f e n =
     record {

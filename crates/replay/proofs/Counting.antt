@@ -7,12 +7,11 @@ use mathlib.Core.Bool.{Bool, cond}
 use mathlib.Core.List.{List, [], ◌∷◌}
 use lib.ListN.{length, drop, drop_of_length-le}
 use lib.Seq.{drop-cons}
-use lib.Dec.{eqb}
 use Rattle.model.specs.Model.{Rules, Request, Trace, Contents, misses, fills, strikes, charge, sum_from, cost, count}
 use Rattle.model.specs.Plans.{request_at}
 use Rattle.model.proofs.Bounds.{no_plan_above}
 use Rattle.model.proofs.Sums.{split}
-use Rattle.trace.specs.TraceFile.{slots_at, requests_at, fill_at, item_at, kind_at, cost_at, rules_in, request_in, trace_in}
+use Rattle.trace.specs.TraceFile.{requests_at, rules_in, request_in, trace_in}
 use Rattle.trace.proofs.Sound.{reqs_length, req_at, trace_within}
 use Rattle.replay.specs.Replay.{Totals, totals_of, named}
 use Rattle.replay.specs.Linked.{flag_at, held_by, Backward, Adds, paid, plus}
@@ -53,9 +52,12 @@ left_from ru t rs S =
       strikes = sum_from (λ r before after. cond (strikes r before after) 1 0) t rs S;
     }
 
+-- before the first request nothing is counted
+abbrev pub none_yet : Totals
+none_yet = record { total = 0; misses = 0; fills = 0; strikes = 0 }
+
 -- what is counted and what is left are the whole
 pub record TotalsLeft (tr flags : List ℕ) (sum : Totals) (t : ℕ) : Type 0 where
-  pub upto : t ≤ length flags
   pub rest : plus sum (left_from (rules_in tr) t (drop t (trace_in tr).reqs) (named (trace_in tr) flags)) ≡ totals_of (trace_in tr) flags
 
 -- totals are equal when their parts are
@@ -65,20 +67,13 @@ same_totals a b p q r s = λ i. record { total = p i; misses = q i; fills = r i;
 plus_turn : (a b c : Totals) → plus (plus a b) c ≡ plus a (plus b c)
 plus_turn a b c = same_totals _ _ (omega arith) (omega arith) (omega arith) (omega arith)
 
-plus_none : (a : Totals) → plus a (record { total = 0; misses = 0; fills = 0; strikes = 0 }) ≡ a
+plus_none : (a : Totals) → plus a none_yet ≡ a
 plus_none a = same_totals _ _ (omega arith) (omega arith) (omega arith) (omega arith)
 
 module _ {tr flags prevs : List ℕ} (b : Backward tr flags prevs) where
   -- what request t pays and counts for
   abbrev pub paid_at : (t : ℕ) → Totals
   paid_at t = paid (rules_in tr) (request_in tr t) (held_by flags prevs t) (flag_at flags t)
-
-  -- by what was read
-  pub paid_is : (t fill kind cost : ℕ) (before after : Bool) → fill ≡ fill_at tr → kind ≡ kind_at tr t → cost ≡ cost_at tr t
-      → before ≡ held_by flags prevs t → after ≡ flag_at flags t
-      → paid (record { slots = slots_at tr; fill = fill }) (record { write = eqb kind 1; item = item_at tr t; cost = cost }) before after ≡ paid_at t
-  paid_is t fill kind cost before after p q r s u = λ i.
-      paid (record { slots = slots_at tr; fill = p i }) (record { write = eqb (q i) 1; item = item_at tr t; cost = r i }) (s i) (u i)
 
   -- the first part of a sum that is left, by the lists
   sum_first : (f : Request → Bool → Bool → ℕ) (t : ℕ) → t < length flags → let S = named (trace_in tr) flags in
@@ -107,22 +102,21 @@ module _ {tr flags prevs : List ℕ} (b : Backward tr flags prevs) where
       (sum_first (λ r before after. cond (fills r before after) 1 0) t l)
       (sum_first (λ r before after. cond (strikes r before after) 1 0) t l)
 
-  pub totals_start : TotalsLeft tr flags (record { total = 0; misses = 0; fills = 0; strikes = 0 }) 0
+  pub totals_start : TotalsLeft tr flags none_yet 0
   unfolding cost count
-  totals_start = record { upto = omega arith; rest = same_totals _ _ (omega arith) (omega arith) (omega arith) (omega arith) }
+  totals_start = record { rest = same_totals _ _ (omega arith) (omega arith) (omega arith) (omega arith) }
 
   pub totals_end : {sum : Totals} {t : ℕ} → TotalsLeft tr flags sum t → length flags ≤ t → sum ≡ totals_of (trace_in tr) flags
   totals_end {sum} {t} v l =
       sym (plus_none sum) ∙ (rw (drop_of_length-le (trace_in tr).reqs {i = t} (omega (arith, reqs_length tr, b.count))) at v.rest)
 
   pub totals_on : {sum : Totals} {t : ℕ} → TotalsLeft tr flags sum t → t < length flags → TotalsLeft tr flags (plus sum (paid_at t)) (t + 1)
-  totals_on {sum} {t} v l = record { upto = omega arith; rest = rw add-one ((plus_turn _ _ _) ∙ (ap (plus sum) (sym (left_step t l)) ∙ v.rest)) }
+  totals_on {sum} {t} v l = record { rest = rw add-one ((plus_turn _ _ _) ∙ (ap (plus sum) (sym (left_step t l)) ∙ v.rest)) }
 
   -- by what was counted
-  pub totals_next : {sum part new : Totals} {t : ℕ} → TotalsLeft tr flags sum t → t < length flags → part ≡ paid_at t → new ≡ plus sum part
-      → TotalsLeft tr flags new (t + 1)
-  totals_next {sum} {part} {new} {t} v l p q =
-      subst (λ (s : Totals). TotalsLeft tr flags s (t + 1)) (sym (q ∙ ap (plus sum) p)) (totals_on v l)
+  pub totals_next : {sum part : Totals} {t : ℕ} → TotalsLeft tr flags sum t → t < length flags → part ≡ paid_at t
+      → TotalsLeft tr flags (plus sum part) (t + 1)
+  totals_next {sum} {part} {t} v l p = subst (λ (s : Totals). TotalsLeft tr flags s (t + 1)) (sym (ap (plus sum) p)) (totals_on v l)
 
   -- what is counted stays within the limits
   pub totals_add : {sum : Totals} {t : ℕ} → TotalsLeft tr flags sum t → t < length flags → Adds sum (paid_at t)

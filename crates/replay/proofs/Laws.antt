@@ -1,5 +1,5 @@
 -- What a replay that passes says: sound flags, allowed contents, totals within the limits; and that it has one answer. Assumes nothing.
-use mathlib.Core.Path.{◌≡◌, refl, sym, ap}
+use mathlib.Core.Path.{◌≡◌, refl, sym}
 use Prim.Native.Nat.{ℕ, suc, ◌+◌, ◌≤◌, ◌<◌}
 use native.Mathlib.Omega.{arith}
 use mathlib.Core.Bool.{Bool, true, false, ◌&&◌, not, false≢true}
@@ -11,17 +11,16 @@ use native.Mathlib.Decide.{dec_lt}
 use Rattle.model.specs.Model.{Rules, Request, Trace, Contents, Allowed, items, misses, fills, strikes}
 use Rattle.model.specs.Plans.{Flags, flags_in, may_flag, FlagsFrom, occupancy, SoundFlags}
 use Rattle.model.specs.Numbers.{max_requests, max_plan_cost}
-use Rattle.model.specs.Refusals.{passes, Answer}
+use Rattle.std.specs.Prelude.{Result}
+use Rattle.model.specs.Refusals.{passes, Answer, answered}
+use Rattle.model.specs.declared.Refusal.{Refusal}
 use Rattle.model.proofs.Sums.{sum_zero}
 use Rattle.model.proofs.Plans.{flags_name_allowed}
 use Rattle.model.proofs.Bounds.{no_plan_above}
-use Rattle.model.proofs.Refusals.{row_passes, next_passes}
+use Rattle.model.proofs.Refusals.{row_passes, next_passes, answered_unique}
 use Rattle.trace.specs.TraceFile.{requests_at, trace_tried, trace_in}
 use Rattle.trace.proofs.Sound.{sound_trace, trace_within, reqs_length}
 use Rattle.replay.specs.Replay.{values_tried, stands_tried, room_tried, named, flags_tried, count_tried, Totals, totals_of, replay_tried}
-use Rattle.replay.specs.Answers.{totals_in, said}
-use Rattle.replay.specs.declared.Replayed.{Replayed}
-use Rattle.replay.specs.declared.Replayed.TheVariants.{Done, Refused}
 use Rattle.replay.proofs.Counting.{no_count_above}
 
 -- ---- rows that pass
@@ -133,17 +132,5 @@ totals_within tr flags h =
 -- ---- one answer
 
 -- what a call's promise permits is one answer
-pub replay_unique : (a b : Replayed) (x : Answer Totals) → said a ≡ x → said b ≡ x → a ≡ b
-replay_unique (Done s) (Done u) x p q =
-    let e : totals_in s ≡ totals_in u = cc in
-    let a : s.total ≡ u.total = ap (λ (k : Totals). k.total) e in
-    let b : s.misses ≡ u.misses = ap (λ (k : Totals). k.misses) e in
-    let c : s.fills ≡ u.fills = ap (λ (k : Totals). k.fills) e in
-    let d : s.strikes ≡ u.strikes = ap (λ (k : Totals). k.strikes) e in
-    λ i. Done (record { total = a i; misses = b i; fills = c i; strikes = d i })
-replay_unique (Done s) (Refused r) x p q = absurd (let z : ◌≡◌ {A = ℕ} 0 1 = cc in omega arith)
-replay_unique (Refused r) (Done s) x p q = absurd (let z : ◌≡◌ {A = ℕ} 0 1 = cc in omega arith)
-replay_unique (Refused r) (Refused s) x p q =
-    let n : r.number ≡ s.number = cc in
-    let m : r.place ≡ s.place = cc in
-    λ i. Refused (record { number = n i; place = m i })
+pub replay_unique : (a b : Result Totals Refusal) (x : Answer Totals) → answered a ≡ x → answered b ≡ x → a ≡ b
+replay_unique = answered_unique

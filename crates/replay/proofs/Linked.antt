@@ -1,12 +1,12 @@
 -- What the lists of next and previous requests say of the contents that flags name. Assumes nothing.
 use mathlib.Core.Path.{◌≡◌, refl, sym, ◌∙◌, ap}
-use Prim.Native.Nat.{ℕ, suc, ◌≤◌, ◌<◌}
+use Prim.Native.Nat.{ℕ, suc, ◌<◌}
 use native.Mathlib.Omega.{arith}
-use mathlib.Core.Bool.{Bool, true, false, ◌||◌, ◌&&◌, not}
+use mathlib.Core.Bool.{Bool, ◌||◌, ◌&&◌, not}
 use mathlib.Core.List.{List}
-use lib.ListN.{length, get_or, drop}
+use lib.ListN.{length, drop}
 use lib.Dec.{eqb}
-use borrow.Author.Tests.{eq-eqb, lt-ltb, le-ltb}
+use borrow.Author.Tests.{eq-eqb}
 use Rattle.model.specs.Model.{Rules, Request, may}
 use Rattle.model.specs.Plans.{request_at, flags_in, may_flag}
 use Rattle.model.proofs.Links.{held-prev, has_next}
@@ -32,10 +32,6 @@ held_before {tr} {flags} {prevs} b t l =
 may_own : (ru : Rules) (t : ℕ) (r : Request) (b : Bool) → may ru t r r.item b ≡ (b || not r.write)
 may_own ru t r b = rw (eq-eqb r.item r.item refl) (split r.write (λ e. rw e) (λ e. rw e))
 
-twice_not : (b : Bool) → b ≡ not (not b)
-twice_not true = refl
-twice_not false = refl
-
 -- a flag is astray when it is 1 and may not be
 pub stray_is : {tr flags nexts prevs : List ℕ} → Forward tr flags nexts prevs → (t : ℕ) → t < requests_at tr
     → stray_by tr flags nexts prevs t
@@ -50,26 +46,3 @@ stray_is {tr} {flags} {nexts} {prevs} f t l =
     let e = has_next rs t (omega (arith, reqs_length tr)) in
     let w : r.write ≡ eqb (kind_at tr t) 1 = ap (λ (q : Request). q.write) (req_at tr t l) in
     rw (b, f.next t l, ← n, ← e, ← w, ← m)
-
--- ---- what tests on the lists come to
-
-pub held_here : (flags prevs : List ℕ) (t p : ℕ) → p ≡ get_or prevs t 0 → p < length flags → flag_at flags p ≡ held_by flags prevs t
-held_here flags prevs t p e l = rw (← e, lt-ltb p (length flags) l)
-
-pub held_never : (flags prevs : List ℕ) (t p : ℕ) → p ≡ get_or prevs t 0 → length flags ≤ p → false ≡ held_by flags prevs t
-held_never flags prevs t p e l = rw (← e, le-ltb p (length flags) l)
-
-module _ (tr flags nexts prevs : List ℕ) (t : ℕ) where
-  pub stray_none : flag_at flags t ≡ false → false ≡ stray_by tr flags nexts prevs t
-  stray_none e = rw e
-
-  pub stray_last : (q : ℕ) → flag_at flags t ≡ true → q ≡ get_or nexts t 0 → length flags ≤ q → true ≡ stray_by tr flags nexts prevs t
-  stray_last q e n l = rw (e, ← n, le-ltb q (length flags) l)
-
-  pub stray_held : (q : ℕ) → flag_at flags t ≡ true → q ≡ get_or nexts t 0 → q < length flags → held_by flags prevs t ≡ true
-      → false ≡ stray_by tr flags nexts prevs t
-  stray_held q e n l h = rw (e, ← n, lt-ltb q (length flags) l, h)
-
-  pub stray_write : (q k : ℕ) → flag_at flags t ≡ true → q ≡ get_or nexts t 0 → q < length flags → held_by flags prevs t ≡ false → k ≡ kind_at tr t
-      → eqb k 1 ≡ stray_by tr flags nexts prevs t
-  stray_write q k e n l h m = rw (e, ← n, lt-ltb q (length flags) l, h, m) (twice_not (eqb (kind_at tr t) 1))

@@ -3,7 +3,8 @@ use mathlib.Core.Path.{◌≡◌, refl, sym, ◌∙◌}
 use Prim.Native.Nat.{ℕ, suc, ◌+◌, ◌-◌, ◌≤◌, ◌<◌}
 use native.Mathlib.Numerals.{add-one}
 use native.Mathlib.Omega.{arith}
-use mathlib.Core.Bool.{true, false, cond}
+use mir.Val.{bool_byte}
+use mathlib.Core.Bool.{Bool, true, false, cond}
 use mathlib.Core.List.{List}
 use lib.ListN.{length, get_or, drop, drop_of_length-le}
 use lib.Seq.{drop-cons}
@@ -23,11 +24,15 @@ use Rattle.replay.proofs.Linked.{held_before, stray_is}
 abbrev pub none : Request
 none = record { write = false; item = 0; cost = 0 }
 
+-- a Bool as a number
+pub as_number : (b a : Bool) → b ≡ a → bool_byte b ≡ cond a 1 0
+as_number true a e = rw (← e)
+as_number false a e = rw (← e)
+
 -- ---- row 13
 
 -- t flags are 0 or 1, and the others decide
 pub record ValuesLeft (flags : List ℕ) (t : ℕ) : Type 0 where
-  pub upto : t ≤ length flags
   pub rest : values_tried t (drop t flags) ≡ values_tried 0 flags
 
 module _ {flags : List ℕ} {t : ℕ} where
@@ -37,7 +42,7 @@ module _ {flags : List ℕ} {t : ℕ} where
   pub values_on : ValuesLeft flags t → t < length flags → get_or flags t 0 ≤ 1 → ValuesLeft flags (t + 1)
   values_on v l h =
       let e = rw (drop-cons flags t 0 l, le-ltb 1 (get_or flags t 0) h) at v.rest in
-      record { upto = omega arith; rest = rw add-one e }
+      record { rest = rw add-one e }
 
   pub values_end : ValuesLeft flags t → length flags ≤ t → passes ≡ values_tried 0 flags
   values_end v l = rw (← v.rest, drop_of_length-le flags {i = t} l)
@@ -46,7 +51,6 @@ module _ {flags : List ℕ} {t : ℕ} where
 
 -- t flags stand where they may, and the others decide
 pub record StandsLeft (tr flags : List ℕ) (t : ℕ) : Type 0 where
-  pub upto : t ≤ length flags
   pub rest : stands_tried (rules_in tr) t (drop t (trace_in tr).reqs) (flags_in flags) (named (trace_in tr) flags) ≡ stands_of tr flags
 
 module _ {tr flags nexts prevs : List ℕ} {t : ℕ} (f : Forward tr flags nexts prevs) where
@@ -61,7 +65,7 @@ module _ {tr flags nexts prevs : List ℕ} {t : ℕ} (f : Forward tr flags nexts
       let n = reqs_length tr in
       let e = sym (stray_is f t (omega (arith, f.back.count))) ∙ h in
       let k = rw (drop-cons (trace_in tr).reqs t none (omega (arith, f.back.count)), e) at v.rest in
-      record { upto = omega arith; rest = rw add-one k }
+      record { rest = rw add-one k }
 
   pub stands_end : StandsLeft tr flags t → length flags ≤ t → passes ≡ stands_of tr flags
   stands_end v l =
@@ -71,13 +75,12 @@ module _ {tr flags nexts prevs : List ℕ} {t : ℕ} (f : Forward tr flags nexts
 
 -- gap t holds this many items, the gaps before it no more than there are slots, and the others decide
 pub record RoomLeft (tr flags : List ℕ) (within t : ℕ) : Type 0 where
-  pub upto : t ≤ length flags
   pub fits : within ≤ slots_at tr
   pub held : within ≡ occupancy (trace_in tr).reqs (named (trace_in tr) flags) t
   pub rest : room_tried (trace_in tr) (named (trace_in tr) flags) t (drop t (trace_in tr).reqs) ≡ room_of tr flags
 
 pub room_start : (tr flags : List ℕ) → RoomLeft tr flags 0 0
-room_start tr flags = record { upto = omega arith; fits = omega arith; held = sym (sum_zero (items (trace_in tr).reqs)); rest = refl }
+room_start tr flags = record { fits = omega arith; held = sym (sum_zero (items (trace_in tr).reqs)); rest = refl }
 
 module _ {tr flags prevs : List ℕ} {within t : ℕ} (b : Backward tr flags prevs) where
   -- how many items the next gap holds
@@ -108,7 +111,7 @@ module _ {tr flags prevs : List ℕ} {within t : ℕ} (b : Backward tr flags pre
       let k = room_now v l after before ea eb in
       let e = le-ltb (slots_at tr) (occupancy (trace_in tr).reqs (named (trace_in tr) flags) (suc t)) (omega arith) in
       let r = rw (drop-cons (trace_in tr).reqs t none (omega (arith, b.count, reqs_length tr)), e) at v.rest in
-      record { upto = omega arith; fits = less; held = rw add-one (omega arith); rest = rw add-one r }
+      record { fits = less; held = rw add-one (omega arith); rest = rw add-one r }
 
   pub room_end : RoomLeft tr flags within t → length flags ≤ t → passes ≡ room_of tr flags
   room_end v l = rw (← v.rest, drop_of_length-le (trace_in tr).reqs {i = t} (omega (arith, reqs_length tr, b.count)))

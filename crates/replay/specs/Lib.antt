@@ -1,5 +1,4 @@
 -- Replay: definitions that a reader has to believe, and what the call answers.
 pub mod Replay
-pub mod Answers
 pub mod Rows
 pub mod Linked

@@ -4,6 +4,7 @@ use Rattle.model.specs.Model.{Rules, Request, Trace, Contents, misses, fills, st
 use Rattle.model.specs.Plans.{Flags, flags_in, contents, may_flag, occupancy}
 use Rattle.model.specs.Refusals.{Tried, passes, row, next, Answer, answer}
 use Rattle.trace.specs.TraceFile.{requests_at, trace_tried, trace_in}
+use Rattle.replay.specs.declared.Totals as code
 
 -- row 13, for the flags of the requests after request t
 abbrev pub values_tried : (t : ℕ) → List ℕ → Tried
@@ -36,11 +37,8 @@ abbrev pub count_tried : (n : ℕ) → List ℕ → Tried
 count_tried n l = row (not (eqb (length l) n)) 11 0 passes
 
 -- what flags come to: the cost of the contents that they name, and how many read misses, fills and write hits it has
-pub record Totals : Type 0 where
-  pub total : ℕ
-  pub misses : ℕ
-  pub fills : ℕ
-  pub strikes : ℕ
+abbrev pub Totals : Type 0
+Totals = code.Totals
 
 -- the totals of flags on a trace
 abbrev pub totals_of : Trace → (flags : List ℕ) → Totals

@@ -1,149 +1,77 @@
-// Rows 13, 14 and 15, each over the whole input. Whether an item is held before a request is read off the flag of its previous request.
-ghost use Rattle.std.specs.Prelude.{◌≡◌, ◌<◌, cond};
-ghost use Rattle.model.specs.Numbers.{max_requests};
-ghost use Rattle.model.specs.Refusals.{said, refusal};
+// Rows 13, 14 and 15, each over the whole input.
+ghost use Rattle.std.specs.Prelude.{◌≡◌};
+ghost use Rattle.model.specs.Refusals.{said};
 ghost use Rattle.trace.specs.TraceFile.{trace_in};
 ghost use Rattle.replay.specs.Replay.{values_tried, flags_tried};
-ghost use Rattle.replay.specs.Linked.{flag_at, held_by, stray_by, Backward, Forward, stands_of, room_of};
+ghost use Rattle.replay.specs.Linked.{stray_by, Forward, stands_of, room_of};
 
-use model::{Outcome, Refusal, Requests};
+use crate::kept::Kept;
+use model::Refusal;
 
-// A refusal with its place.
-pub fn refused(number: u64, place: u64) -> Outcome
-    ensures { said result ≡ refusal number place }
-{
-    Outcome::Refused(Refusal { number, place })
+// Flags on a sound trace: one for each of its requests, beside the trace's links.
+#[derive(Clone, Copy)]
+pub struct Sound<'a, 'b> {
+    pub trace: &'a [u8],
+    pub kept: Kept<'b>,
+    ghost linked: { Forward trace.now kept.flags.now kept.links.now.next kept.links.now.prev },
 }
 
-// A number of a list, as a place.
-pub fn wide(x: u16) -> usize
-    ensures { result ≡ x }
-{
-    x as usize
-}
+impl Sound<'_, '_> {
+    // Rows 13, 14 and 15, one after the other.
+    #[tactic(auto, unfolding(crate::specs::Replay::flags_tried))]
+    pub fn tried(&self) -> Result<(), Refusal>
+        ensures { said result ≡ flags_tried (trace_in self.now.trace.now) self.now.kept.flags.now }
+    {
+        self.values()?;
+        self.stands()?;
+        self.room()
+    }
 
-// One or none.
-pub fn bit(b: bool) -> usize
-    ensures { (result ≡ cond b 1 0) × (result < 2) }
-{
-    if b {
-        return 1;
-    }
-    0
-}
-
-// Whether flag t is 1; past the end it is not.
-pub fn flag(flags: &[u8], t: usize) -> bool
-    ensures { result ≡ flag_at flags.now t }
-{
-    if t < flags.len() {
-        return flags[t] == 1;
-    }
-    false
-}
-
-// Whether the item of request t is held before it.
-pub fn held(flags: &[u8], prev: &[u16; Requests::MAX], t: usize) -> bool
-    requires { t < max_requests }
-    ensures { result ≡ held_by flags.now prev.now t }
-{
-    let p = wide(prev[t]);
-    if p < flags.len() {
-        return flag(flags, p);
-    }
-    false
-}
-
-// Whether flag t is 1 where it may not be.
-pub fn stray(
-    trace: &[u8],
-    flags: &[u8],
-    next: &[u16; Requests::MAX],
-    prev: &[u16; Requests::MAX],
-    t: usize,
-) -> bool
-    requires { t < max_requests }
-    ensures { result ≡ stray_by trace.now flags.now next.now prev.now t }
-{
-    if !flag(flags, t) {
-        return false;
-    }
-    if flags.len() <= wide(next[t]) {
-        return true;
-    }
-    if held(flags, prev, t) {
-        return false;
-    }
-    trace::kind(trace, t) == 1
-}
-
-// Row 13: every flag is 0 or 1.
-pub fn values(flags: &[u8]) -> Outcome
-    ensures { said result ≡ values_tried 0 flags.now }
-{
-    let mut t: usize = 0;
-    while t < flags.len() {
-        if 1 < flags[t] {
-            return refused(13, t as u64 + 1);
+    // Row 13: every flag is 0 or 1.
+    fn values(&self) -> Result<(), Refusal>
+        ensures { said result ≡ values_tried 0 self.now.kept.flags.now }
+    {
+        for (t, flag) in self.kept.flags.iter().enumerate() {
+            if 1 < *flag {
+                return Err(Refusal::FlagValue(t as u64 + 1));
+            }
         }
-        t += 1;
+        Ok(())
     }
-    Outcome::Sound
-}
 
-// Row 14: every flag 1 stands where it may.
-pub fn stands(
-    trace: &[u8],
-    flags: &[u8],
-    next: &[u16; Requests::MAX],
-    prev: &[u16; Requests::MAX],
-) -> Outcome
-    requires { Forward trace.now flags.now next.now prev.now }
-    ensures { said result ≡ stands_of trace.now flags.now }
-{
-    let mut t: usize = 0;
-    while t < flags.len() {
-        if stray(trace, flags, next, prev, t) {
-            return refused(14, t as u64 + 1);
+    // Row 14: every flag 1 stands where it may.
+    fn stands(&self) -> Result<(), Refusal>
+        ensures { said result ≡ stands_of self.now.trace.now self.now.kept.flags.now }
+    {
+        for t in 0..self.kept.flags.len() {
+            if self.stray(t) {
+                return Err(Refusal::FlagPlace(t as u64 + 1));
+            }
         }
-        t += 1;
+        Ok(())
     }
-    Outcome::Sound
-}
 
-// Row 15: no gap holds more items than there are slots. A kept item is counted in every gap of the keep.
-pub fn room(trace: &[u8], flags: &[u8], prev: &[u16; Requests::MAX]) -> Outcome
-    requires { Backward trace.now flags.now prev.now }
-    ensures { said result ≡ room_of trace.now flags.now }
-{
-    let w = trace::slots(trace);
-    let mut within: usize = 0;
-    let mut t: usize = 0;
-    while t < flags.len() {
-        within = within + bit(flag(flags, t)) - bit(held(flags, prev, t));
-        if w < within {
-            return refused(15, t as u64 + 1);
+    // Row 15: no gap holds more items than there are slots. A kept item is counted in every gap of the keep.
+    fn room(&self) -> Result<(), Refusal>
+        ensures { said result ≡ room_of self.now.trace.now self.now.kept.flags.now }
+    {
+        let slots = trace::slots(self.trace);
+        let mut within: usize = 0;
+        for t in 0..self.kept.flags.len() {
+            within = within + usize::from(self.kept.flag(t)) - usize::from(self.kept.held(t));
+            if slots < within {
+                return Err(Refusal::Crowded(t as u64 + 1));
+            }
         }
-        t += 1;
+        Ok(())
     }
-    Outcome::Sound
-}
 
-// Rows 13, 14 and 15, one after the other.
-pub fn tried(
-    trace: &[u8],
-    flags: &[u8],
-    next: &[u16; Requests::MAX],
-    prev: &[u16; Requests::MAX],
-) -> Outcome
-    requires { Forward trace.now flags.now next.now prev.now }
-    ensures { said result ≡ flags_tried (trace_in trace.now) flags.now }
-{
-    if let Outcome::Refused(r) = values(flags) {
-        return Outcome::Refused(r);
+    // Whether flag t is 1 where it may not be: at an item's last request, or at a write of an item not held.
+    fn stray(&self, t: usize) -> bool
+        ensures { result ≡ stray_by self.now.trace.now self.now.kept.flags.now self.now.kept.links.now.next self.now.kept.links.now.prev t }
+    {
+        let next = self.kept.links.next.get(t).copied().unwrap_or(0);
+        let again = usize::from(next) < self.kept.flags.len();
+        self.kept.flag(t) && !(again && (self.kept.held(t) || !trace::is_write(self.trace, t)))
     }
-    if let Outcome::Refused(r) = stands(trace, flags, next, prev) {
-        return Outcome::Refused(r);
-    }
-    room(trace, flags, prev)
 }

@@ -12,14 +12,13 @@ use Rattle.model.specs.Plans.{request_at}
 use Rattle.model.specs.Links.{listed}
 use Rattle.model.proofs.Links.{length-listed, get_d_listed}
 use Rattle.model.specs.Numbers.{max_cost, CostsWithin, Within}
-use Rattle.model.specs.Refusals.{passes, row, Answer}
-use Rattle.model.proofs.Refusals.{row_passes}
+use Rattle.std.proofs.Common.{Result}
+use Rattle.model.specs.Refusals.{passes, row, Answer, answered}
+use Rattle.model.specs.declared.Refusal.{Refusal}
+use Rattle.model.proofs.Refusals.{row_passes, answered_unique}
 use Rattle.trace.specs.TraceFile.{requests_at, kind_at, zero_at, cost_at, marked_trace, records_tried, trace_tried, request_in, trace_in, SoundTrace}
 use Rattle.trace.proofs.Records.{record_by_record}
-use Rattle.trace.specs.Answers.{said}
 use Rattle.trace.specs.declared.Header.{Header}
-use Rattle.trace.specs.declared.Checked.{Checked}
-use Rattle.trace.specs.declared.Checked.TheVariants.{Sound, Refused}
 
 -- ---- rows
 
@@ -99,14 +98,8 @@ trace_within tr s =
 -- ---- one answer
 
 -- what a call's promise permits is one answer
-pub check_unique : (a b : Checked) (x : Answer Header) → said a ≡ x → said b ≡ x → a ≡ b
-check_unique (Sound h) (Sound g) x p q = cc
-check_unique (Sound h) (Refused r) x p q = absurd (let z : ◌≡◌ {A = ℕ} 0 1 = cc in omega arith)
-check_unique (Refused r) (Sound h) x p q = absurd (let z : ◌≡◌ {A = ℕ} 0 1 = cc in omega arith)
-check_unique (Refused r) (Refused s) x p q =
-    let n : r.number ≡ s.number = cc in
-    let m : r.place ≡ s.place = cc in
-    ap (λ (i : ℕ). Refused (record { number = i; place = r.place })) n ∙ ap (λ (i : ℕ). Refused (record { number = s.number; place = i })) m
+pub check_unique : (a b : Result Header Refusal) (x : Answer Header) → answered a ≡ x → answered b ≡ x → a ≡ b
+check_unique = answered_unique
 
 -- and so is a number that is to equal another
 pub number_unique : (a b x : ℕ) → a ≡ x → b ≡ x → a ≡ b

@@ -2,13 +2,17 @@
 // The readers are total: past the end bytes count as 0. It knows nothing of plans.
 #![tactic(auto)]
 
-ghost use Rattle.std.specs.Prelude.{◌≡◌, ◌<◌};
+ghost use Rattle.std.specs.Prelude.{◌≡◌, ◌<◌, eqb};
+ghost use Rattle.model.specs.Refusals.{answered};
 ghost use Rattle.trace.specs.TraceFile.{slots_at, requests_at, fill_at, item_at, kind_at, cost_at};
-ghost use Rattle.trace.specs.Answers.{said, check_of};
+ghost use Rattle.trace.specs.Answers.{check_of};
 
-use model::{Outcome, Refusal};
+use model::{Refusal, Requests};
 
 mod rows;
+
+// A byte more than the longest sound trace has, so that a longer file is seen to be too long.
+pub const ROOM: usize = 8 * Requests::MAX + 13;
 
 // What stands at the head of a trace: w, n, F, and where the first record begins.
 #[derive(Clone, Copy)]
@@ -24,13 +28,6 @@ impl Header {
     pub const SIZE: usize = 12;
 }
 
-// What checking a trace answers.
-#[derive(Clone, Copy)]
-pub enum Checked {
-    Sound(Header),
-    Refused(Refusal),
-}
-
 // w.
 pub fn slots(trace: &[u8]) -> usize
     ensures { (result ≡ slots_at trace.now) × (result < 256) }
@@ -42,48 +39,53 @@ pub fn slots(trace: &[u8]) -> usize
 pub fn requests(trace: &[u8]) -> usize
     ensures { (result ≡ requests_at trace.now) × (result < 65536) }
 {
-    fields::u16_at(trace, 6) as usize
+    fields::number_at::<2>(trace, 6) as usize
 }
 
 // F.
 pub fn fill(trace: &[u8]) -> u64
     ensures { (result ≡ fill_at trace.now) × (result < 4294967296) }
 {
-    fields::u32_at(trace, 8)
+    fields::number_at::<4>(trace, 8)
 }
 
 // The item of record t, counted from 0.
 pub fn item(trace: &[u8], t: usize) -> u64
     ensures { (result ≡ item_at trace.now t) × (result < 65536) }
 {
-    fields::u16_at(trace, rows::record_at(trace, t))
+    fields::number_at::<2>(trace, rows::record_at(trace, t))
 }
 
-// Its kind: 0 read, 1 write.
+// Its kind: 0 read, 1 write. Of a trace that is not checked it may be any byte, so it is no enum.
 pub fn kind(trace: &[u8], t: usize) -> u64
     ensures { (result ≡ kind_at trace.now t) × (result < 256) }
 {
     fields::byte_at(trace, rows::record_at(trace, t) + 2)
 }
 
+// Whether it is a write.
+pub fn is_write(trace: &[u8], t: usize) -> bool
+    ensures { result ≡ eqb (kind_at trace.now t) 1 }
+{
+    kind(trace, t) == 1
+}
+
 // Its cost.
 pub fn cost(trace: &[u8], t: usize) -> u64
     ensures { (result ≡ cost_at trace.now t) × (result < 4294967296) }
 {
-    fields::u32_at(trace, rows::record_at(trace, t) + 4)
+    fields::number_at::<4>(trace, rows::record_at(trace, t) + 4)
 }
 
 // The header, or the first of refusals 1 to 8 that holds.
-pub fn check(trace: &[u8]) -> Checked
-    ensures { said result ≡ check_of trace.now }
+pub fn check(trace: &[u8]) -> Result<Header, Refusal>
+    ensures { answered result ≡ check_of trace.now }
 {
-    match rows::tried(trace) {
-        Outcome::Refused(r) => Checked::Refused(r),
-        Outcome::Sound => Checked::Sound(Header {
-            slots: slots(trace),
-            requests: requests(trace),
-            fill: fill(trace),
-            first: Header::SIZE,
-        }),
-    }
+    rows::tried(trace)?;
+    Ok(Header {
+        slots: slots(trace),
+        requests: requests(trace),
+        fill: fill(trace),
+        first: Header::SIZE,
+    })
 }

@@ -8,9 +8,8 @@ use mathlib.Core.List.{List, ◌++◌}
 use lib.ListN.{length, get_or, set, drop, length-set}
 use lib.Dec.{ltb}
 use borrow.Author.Tests.{lt-ltb, le-ltb}
-use Rattle.trace.specs.TraceFile.{requests_at}
 use Rattle.ways.specs.Ways.{closed, point_source, request_source, source_by, charge_at, kept_by, crowd_step, crowd_by, point_length, request_length, length_by}
-use Rattle.ways.specs.Promise.{listed, Sourced, Charged, Measured}
+use Rattle.ways.specs.Promise.{listed, Sourced, Measured}
 use Rattle.ways.specs.Parts.{put_at, put_both, crowd_before, idle_way, Turned}
 use Rattle.ways.proofs.Rows.{listed_step, Says, Laying, laying_start, laying_turn, laying_end, both_laid, length_both}
 
@@ -40,9 +39,6 @@ module _ (next prev : List ℕ) (n : ℕ) where
       rw (lt-ltb n (n + 1 + t) (omega arith), e)
 
   module _ (old : List ℕ) where
-    pub sources-kept : 1024 < n → Sourced n next prev old old
-    sources-kept h = record { laid = rw (lt-ltb 1024 n h); long = refl }
-
     pub sources-laid : (from : List ℕ) → n ≤ 1024 → length old ≡ 6150
         → from ≡ put_both (point_source n) (request_source n next prev) n (suc n) n old → Sourced n next prev old from
     sources-laid from h l p =
@@ -72,14 +68,6 @@ module _ (tr old : List ℕ) (n : ℕ) where
         laid = rw (add-one t, e, w.laid) (listed_step (charge_at tr) t old (omega arith));
         long = length-set l t a ∙ w.long;
       }
-
-  pub charges_kept : n ≡ requests_at tr → 1024 < n → Charged tr old old
-  charges_kept e h = record { laid = rw (lt-ltb 1024 (requests_at tr) (omega arith)); long = refl }
-
-  pub charges_laid : (new : List ℕ) → n ≡ requests_at tr → n ≤ 1024 → length old ≡ 1024 → length new ≡ length old
-      → new ≡ listed (charge_at tr) n 0 ++ drop n old → Charged tr old new
-  charges_laid new e h l m p =
-      record { laid = rw (le-ltb 1024 (requests_at tr) (omega arith)) (rw e at p); long = m }
 
 -- ---- lengths
 
@@ -145,9 +133,6 @@ module _ (n fill k : ℕ) (from charges flags worth : List ℕ) where
     pub measuring-end : (len : List ℕ) (c t i : ℕ) (len' : List ℕ) → Measuring old len c t → n ≤ t → i ≡ idle_way worth n
         → len' ≡ put_at len n closed closed i → len' ≡ put_both points requests n (suc n) n old
     measuring-end len c t i len' w l r e = laying_end points requests n old len len' t closed closed i w.lies l (last_says i r) e
-
-    pub lengths-kept : 1024 < n → Measured n fill k from charges flags worth old old
-    lengths-kept h = record { laid = rw (lt-ltb 1024 n h); long = refl }
 
     pub lengths-laid : (len : List ℕ) → n ≤ 1024 → length old ≡ 6150 → len ≡ put_both points requests n (suc n) n old
         → Measured n fill k from charges flags worth old len

@@ -2,3 +2,4 @@
 pub mod Ways
 pub mod Promise
 pub mod Parts
+pub mod Turns

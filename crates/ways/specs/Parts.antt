@@ -19,8 +19,8 @@ use Rattle.ways.specs.Ways.{
   request_length,
 }
 
--- three numbers stored at the places of node u
-abbrev pub put_at : List ℕ → (u a b c : ℕ) → List ℕ
+-- three values stored at the places of node u
+abbrev pub put_at : {A : Type 0} → List A → (u : ℕ) → (a b c : A) → List A
 put_at l u a b c = set (set (set l (3 * u) a) (3 * u + 1) b) (3 * u + 2) c
 
 -- what f says of 0, 1, .. , k - 1, stored at the nodes v, v + 1, ..

@@ -1,11 +1,25 @@
 // The lengths of the ways, request by request. Which of the four cases a request has is decided once, by branches:
 // under an emulator a comparison whose result is kept costs more than one that is jumped on.
-ghost use Rattle.std.specs.Prelude.{◌≡◌, suc, ◌+◌, ◌-◌, ◌≤◌, ◌<◌, cond, ltb, length, get_or};
-ghost use Rattle.ways.specs.Ways.{closed, unheld, now_held, point_length, request_length};
-ghost use Rattle.ways.specs.Parts.{idle_way, down_way, ahead_way, behind_way, middle_way, put_both, Turned};
+ghost use Rattle.std.specs.Prelude.{◌≡◌, ◌≤◌, ◌<◌, cond, ltb, get_or};
+ghost use Rattle.ways.specs.Ways.{closed, held_by, unheld, now_held};
+ghost use Rattle.ways.specs.Parts.{idle_way, down_way, ahead_way, behind_way, middle_way};
 
-use crate::Way;
-use crate::lists::{is_held, minus, plus, put, wide};
+use crate::lists::put;
+use crate::{CLOSED, NODES, PLACES};
+use model::Requests;
+
+// What the lengths are told from: n requests and their fill price, where ways come from, what requests are charged, which items are
+// held, and what nodes are worth. Its methods take a request t < n: a struct of that fact would put each list behind two references.
+#[derive(Clone, Copy)]
+pub struct Network<'a> {
+    pub n: usize,
+    pub fill: u32,
+    pub from: &'a [u16; PLACES],
+    pub charges: &'a [u32; Requests::MAX],
+    pub flags: &'a [u8; Requests::MAX],
+    pub worth: &'a [u32; NODES],
+    ghost few: { n ≤ 1024 },
+}
 
 // How many items are held after a request; the lengths of the way down to its point and of the three ways into it.
 #[derive(Drop)]
@@ -22,9 +36,9 @@ fn given_up(q: u32, w: u32, c: u32) -> u32
     ensures { result ≡ unheld q w c }
 {
     if c % 2 == 1 {
-        minus(minus(q, c / 2), w)
+        q.wrapping_sub(c / 2).wrapping_sub(w)
     } else {
-        minus(plus(q, c / 2), w)
+        q.wrapping_add(c / 2).wrapping_sub(w)
     }
 }
 
@@ -33,197 +47,166 @@ fn taken_up(q: u32, w: u32, c: u32) -> u32
     ensures { result ≡ now_held q w c }
 {
     if c % 2 == 1 {
-        minus(plus(q, c / 2), w)
+        q.wrapping_add(c / 2).wrapping_sub(w)
     } else {
-        minus(minus(q, c / 2), w)
+        q.wrapping_sub(c / 2).wrapping_sub(w)
     }
-}
-
-// The way into request t from the next request of its item, which is kept up to it.
-fn ahead(from: &[u16; 6150], charges: &[u32; 1024], worth: &[u32; 2050], n: usize, t: usize) -> u32
-    requires { (t < n) × (n ≤ 1024) }
-    ensures { result ≡ ahead_way n from.now charges.now worth.now t }
-{
-    let v = n + 1 + t;
-    let a = wide(from[3 * v]);
-    if v < a {
-        if a < 2 * n + 1 {
-            return given_up(worth[a], worth[v], charges[a - (n + 1)]);
-        }
-    }
-    Way::CLOSED
-}
-
-// The way into request t from the previous request of its item, which is not held.
-fn behind(from: &[u16; 6150], charges: &[u32; 1024], worth: &[u32; 2050], n: usize, t: usize) -> u32
-    requires { (t < n) × (n ≤ 1024) }
-    ensures { result ≡ behind_way n from.now charges.now worth.now t }
-{
-    let v = n + 1 + t;
-    let b = wide(from[3 * v + 1]);
-    if n < b {
-        if b < v {
-            return taken_up(worth[b], worth[v], charges[t]);
-        }
-    }
-    Way::CLOSED
-}
-
-// The way into request t from its point, where its item is not given up.
-fn middle(charges: &[u32; 1024], worth: &[u32; 2050], n: usize, fill: u32, t: usize) -> u32
-    requires { (t < n) × (n ≤ 1024) }
-    ensures { result ≡ middle_way n fill charges.now worth.now t }
-{
-    if charges[t] % 2 == 1 {
-        return Way::CLOSED;
-    }
-    minus(plus(worth[t], fill), worth[n + 1 + t])
-}
-
-// The way from request t down to its point, where no item is filled.
-fn down(worth: &[u32; 2050], n: usize, t: usize) -> u32
-    requires { (t < n) × (n ≤ 1024) }
-    ensures { result ≡ down_way n worth.now t }
-{
-    minus(worth[n + 1 + t], worth[t])
 }
 
 // The way across a gap that holds c items, with k slots.
 fn across(c: usize, k: u8) -> u32
     ensures { result ≡ cond (ltb c k) 0 closed }
 {
-    if c < k as usize { 0 } else { Way::CLOSED }
+    if c < usize::from(k) { 0 } else { CLOSED }
 }
 
-// The way into point g from the point before it.
-fn idle(worth: &[u32; 2050], g: usize) -> u32
-    requires { g ≤ 1024 }
-    ensures { result ≡ idle_way worth.now g }
-{
-    if 0 < g {
-        minus(worth[g - 1], worth[g])
-    } else {
-        Way::CLOSED
+impl<'a> Network<'a> {
+    ghost use Rattle.ways.specs.Turns.{Brings, laid_in};
+
+    // Whether the item of request t is held before it.
+    fn is_held(&self, t: usize) -> bool
+        requires { t < self.now.n }
+        ensures { result ≡ held_by self.now.flags.now self.now.from.now self.now.n t }
+    {
+        let v = self.n + 1 + t;
+        let b = usize::from(self.from[3 * v + 1]);
+        self.n < b && b < v && self.flags[b - (self.n + 1)] == 1
     }
-}
 
-// One item less.
-fn fewer(c: usize) -> usize
-    ensures { result ≡ c - 1 }
-{
-    if 0 < c { c - 1 } else { 0 }
-}
+    // The way into request t from the next request of its item, which is kept up to it.
+    fn ahead(&self, t: usize) -> u32
+        requires { t < self.now.n }
+        ensures { result ≡ ahead_way self.now.n self.now.from.now self.now.charges.now self.now.worth.now t }
+    {
+        let v = self.n + 1 + t;
+        let a = usize::from(self.from[3 * v]);
+        if v < a && a < 2 * self.n + 1 {
+            given_up(self.worth[a], self.worth[v], self.charges[a - (self.n + 1)])
+        } else {
+            CLOSED
+        }
+    }
 
-// What a request brings whose item is kept after it.
-fn kept(
-    n: usize,
-    fill: u32,
-    from: &[u16; 6150],
-    charges: &[u32; 1024],
-    flags: &[u8; 1024],
-    worth: &[u32; 2050],
-    t: usize,
-    c: usize,
-) -> Brought
-    requires { (t < n) × (n ≤ 1024) × (c < 1024) × (get_or flags.now t 0 ≡ 1) }
-    ensures { Turned n fill from.now charges.now flags.now worth.now t c result.crowd result.down result.ahead result.behind result.middle }
-{
-    let a = ahead(from, charges, worth, n, t);
-    let m = middle(charges, worth, n, fill, t);
-    if is_held(from, flags, n, t) {
-        return Brought {
-            crowd: c,
-            down: down(worth, n, t),
+    // The way into request t from the previous request of its item, which is not held.
+    fn behind(&self, t: usize) -> u32
+        requires { t < self.now.n }
+        ensures { result ≡ behind_way self.now.n self.now.from.now self.now.charges.now self.now.worth.now t }
+    {
+        let v = self.n + 1 + t;
+        let b = usize::from(self.from[3 * v + 1]);
+        if self.n < b && b < v {
+            taken_up(self.worth[b], self.worth[v], self.charges[t])
+        } else {
+            CLOSED
+        }
+    }
+
+    // The way into request t from its point, where its item is not given up.
+    fn middle(&self, t: usize) -> u32
+        requires { t < self.now.n }
+        ensures { result ≡ middle_way self.now.n self.now.fill self.now.charges.now self.now.worth.now t }
+    {
+        if self.charges[t] % 2 == 1 {
+            CLOSED
+        } else {
+            self.worth[t]
+                .wrapping_add(self.fill)
+                .wrapping_sub(self.worth[self.n + 1 + t])
+        }
+    }
+
+    // The way from request t down to its point, where no item is filled.
+    fn down(&self, t: usize) -> u32
+        requires { t < self.now.n }
+        ensures { result ≡ down_way self.now.n self.now.worth.now t }
+    {
+        self.worth[self.n + 1 + t].wrapping_sub(self.worth[t])
+    }
+
+    // The way into point g from the point before it.
+    fn idle(&self, g: usize) -> u32
+        requires { g ≤ self.now.n }
+        ensures { result ≡ idle_way self.now.worth.now g }
+    {
+        if 0 < g {
+            self.worth[g - 1].wrapping_sub(self.worth[g])
+        } else {
+            CLOSED
+        }
+    }
+
+    // What a request brings whose item is kept after it.
+    fn kept(&self, t: usize, c: usize) -> Brought
+        requires { (t < self.now.n) × (c < 1024) × (get_or self.now.flags.now t 0 ≡ 1) }
+        ensures { Brings self.now t c result }
+    {
+        let a = self.ahead(t);
+        let m = self.middle(t);
+        if self.is_held(t) {
+            return Brought {
+                crowd: c,
+                down: self.down(t),
+                ahead: a,
+                behind: CLOSED,
+                middle: m,
+            };
+        }
+        Brought {
+            crowd: c + 1,
+            down: 0,
             ahead: a,
-            behind: Way::CLOSED,
+            behind: self.behind(t),
             middle: m,
-        };
+        }
     }
-    Brought {
-        crowd: c + 1,
-        down: 0,
-        ahead: a,
-        behind: behind(from, charges, worth, n, t),
-        middle: m,
-    }
-}
 
-// What a request brings whose item is not kept after it.
-fn dropped(
-    n: usize,
-    fill: u32,
-    from: &[u16; 6150],
-    charges: &[u32; 1024],
-    flags: &[u8; 1024],
-    worth: &[u32; 2050],
-    t: usize,
-    c: usize,
-) -> Brought
-    requires { (t < n) × (n ≤ 1024) × (get_or flags.now t 0 ≡ 1 → ⊥) }
-    ensures { Turned n fill from.now charges.now flags.now worth.now t c result.crowd result.down result.ahead result.behind result.middle }
-{
-    let d = down(worth, n, t);
-    if is_held(from, flags, n, t) {
-        return Brought {
-            crowd: fewer(c),
+    // What a request brings whose item is not kept after it.
+    fn dropped(&self, t: usize, c: usize) -> Brought
+        requires { (t < self.now.n) × (get_or self.now.flags.now t 0 ≡ 1 → ⊥) }
+        ensures { Brings self.now t c result }
+    {
+        let d = self.down(t);
+        if self.is_held(t) {
+            return Brought {
+                crowd: c.saturating_sub(1),
+                down: d,
+                ahead: CLOSED,
+                behind: CLOSED,
+                middle: 0,
+            };
+        }
+        Brought {
+            crowd: c,
             down: d,
-            ahead: Way::CLOSED,
-            behind: Way::CLOSED,
-            middle: 0,
-        };
+            ahead: CLOSED,
+            behind: self.behind(t),
+            middle: self.middle(t),
+        }
     }
-    Brought {
-        crowd: c,
-        down: d,
-        ahead: Way::CLOSED,
-        behind: behind(from, charges, worth, n, t),
-        middle: middle(charges, worth, n, fill, t),
-    }
-}
 
-// What request t brings.
-fn turn(
-    n: usize,
-    fill: u32,
-    from: &[u16; 6150],
-    charges: &[u32; 1024],
-    flags: &[u8; 1024],
-    worth: &[u32; 2050],
-    t: usize,
-    c: usize,
-) -> Brought
-    requires { (t < n) × (n ≤ 1024) × (c < 1024) }
-    ensures { Turned n fill from.now charges.now flags.now worth.now t c result.crowd result.down result.ahead result.behind result.middle }
-{
-    if flags[t] == 1 {
-        kept(n, fill, from, charges, flags, worth, t, c)
-    } else {
-        dropped(n, fill, from, charges, flags, worth, t, c)
+    // What request t brings, where c items are held before it.
+    fn turn(&self, t: usize, c: usize) -> Brought
+        requires { (t < self.now.n) × (c < 1024) }
+        ensures { Brings self.now t c result }
+    {
+        if self.flags[t] == 1 {
+            self.kept(t, c)
+        } else {
+            self.dropped(t, c)
+        }
     }
-}
 
-// The lengths of the ways into all nodes.
-pub fn lay(
-    n: usize,
-    fill: u32,
-    k: u8,
-    from: &[u16; 6150],
-    charges: &[u32; 1024],
-    flags: &[u8; 1024],
-    worth: &[u32; 2050],
-    len: &mut [u32],
-)
-    requires { (n ≤ 1024) × (length len.old ≡ 6150) }
-    ensures { len.new ≡ put_both (point_length n k from.now flags.now worth.now) (request_length n fill from.now charges.now flags.now worth.now) n (suc n) n len.old }
-{
-    let mut c: usize = 0;
-    let mut t: usize = 0;
-    while t < n {
-        let s = turn(n, fill, from, charges, flags, worth, t, c);
-        c = s.crowd;
-        put(len, t, s.down, across(c, k), idle(worth, t));
-        put(len, n + 1 + t, s.ahead, s.behind, s.middle);
-        t += 1;
+    // The lengths of the ways into all nodes, with k slots laid.
+    pub fn lay(&self, k: u8, len: &mut [u32; PLACES])
+        ensures { len.new ≡ laid_in self.now k len.old }
+    {
+        let mut c = 0;
+        for t in 0..self.n {
+            let s = self.turn(t, c);
+            c = s.crowd;
+            put(len, t, s.down, across(c, k), self.idle(t));
+            put(len, self.n + 1 + t, s.ahead, s.behind, s.middle);
+        }
+        put(len, self.n, CLOSED, CLOSED, self.idle(self.n));
     }
-    put(len, n, Way::CLOSED, Way::CLOSED, idle(worth, n));
 }

@@ -1,60 +1,62 @@
 // The worths at the start, told from the last request back.
-ghost use Rattle.std.specs.Prelude.{◌≡◌, ◌≤◌, ◌<◌, length};
+ghost use Rattle.std.specs.Prelude.{◌≡◌, ◌≤◌, ◌<◌};
 ghost use Rattle.worths.specs.Worths.{gain_by, ahead_by, point_by, Told};
 
-use crate::numbers::{less, more, most, place};
+use crate::PLACES;
 use model::Requests;
 
 // What an item that is worth q after request u is worth before it.
 pub fn gain(trace: &[u8], u: usize, q: u32) -> u32
     ensures { result ≡ gain_by trace.now u q }
 {
-    let cost = trace::cost(trace, u);
-    if trace::kind(trace, u) == 1 {
-        less(q, cost)
+    let cost = trace::cost(trace, u) as u32;
+    if trace::is_write(trace, u) {
+        q.saturating_sub(cost)
     } else {
-        more(q, cost)
+        q.saturating_add(cost)
     }
 }
 
 // What holding request t's item is worth by its next request.
-pub fn ahead(trace: &[u8], next: &[u16; Requests::MAX], worth: &[u32], n: usize, t: usize) -> u32
-    requires { (t < n) × (n ≤ 1024) × (length worth.now ≡ 2050) }
+pub fn ahead(
+    trace: &[u8],
+    next: &[u16; Requests::MAX],
+    worth: &[u32; PLACES],
+    n: usize,
+    t: usize,
+) -> u32
+    requires { (t < n) × (n ≤ 1024) }
     ensures { result ≡ ahead_by trace.now n next.now worth.now t }
 {
-    let u = place(next[t]);
-    if t < u {
-        if u < n {
-            return gain(trace, u, worth[n + 1 + u]);
-        }
+    let u = usize::from(next[t]);
+    if t < u && u < n {
+        gain(trace, u, worth[n + 1 + u])
+    } else {
+        0
     }
-    0
 }
 
 // What an empty slot is worth before request t, where it is worth `after` behind it and a held item q.
 pub fn point(trace: &[u8], t: usize, after: u32, q: u32) -> u32
     ensures { result ≡ point_by trace.now t after q }
 {
-    if trace::kind(trace, t) == 1 {
+    if trace::is_write(trace, t) {
         after
     } else {
-        most(after, less(q, trace::fill(trace)))
+        after.max(q.saturating_sub(trace::fill(trace) as u32))
     }
 }
 
 // Fills the worths of n requests.
-pub fn tell(trace: &[u8], next: &[u16; Requests::MAX], n: usize, worth: &mut [u32])
-    requires { (n ≤ 1024) × (length worth.old ≡ 2050) }
+pub fn tell(trace: &[u8], next: &[u16; Requests::MAX], n: usize, worth: &mut [u32; PLACES])
+    requires { n ≤ 1024 }
     ensures { Told trace.now n next.now worth.old worth.new }
 {
     worth[n] = 0;
-    let mut left: usize = n;
-    while 0 < left {
-        let t = left - 1;
-        let after = worth[left];
-        let q = most(after, ahead(trace, next, worth, n, t));
+    for t in (0..n).rev() {
+        let after = worth[t + 1];
+        let q = after.max(ahead(trace, next, worth, n, t));
         worth[n + 1 + t] = q;
         worth[t] = point(trace, t, after, q);
-        left = t;
     }
 }

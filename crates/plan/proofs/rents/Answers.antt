@@ -11,7 +11,7 @@ use Rattle.plan.proofs.rents.Goals.{After-requests-start}
 -- the plan has none of 1 to 12
 sound : (c : After-requests-start) → let a = c.args in SoundPlan (requests_at a.trace.now) a.plan.now
 sound c =
-    section_sound _ _ (sym (rw c.in-Sound.is at c.refusal.ensures))
+    section_sound _ _ (sym (rw c.in-Ok.is at c.check.ensures))
 
 pub slice_bounds-result-start : goal.slice_bounds-result-start
 slice_bounds-result-start c = omega (arith, (sound (goal.at.slice_bounds-result-start c).After-requests-start).long, c.requests-start.ensures.0)
@@ -19,9 +19,9 @@ slice_bounds-result-start c = omega (arith, (sound (goal.at.slice_bounds-result-
 pub slice_bounds-result-count : goal.slice_bounds-result-count
 slice_bounds-result-count c = omega (arith, (sound (goal.at.slice_bounds-result-count c).After-requests-start).long, c.requests-start.ensures.0)
 
-pub returns-in-Sound : goal.returns-in-Sound
-returns-in-Sound c =
+pub returns-in-Ok : goal.returns-in-Ok
+returns-in-Ok c =
     let pl = c.args.plan.now in
     let n = c.requests-start.result in
-    let z : length pl - (16 + n) ≡ 4 * n = omega (arith, (sound (goal.at.returns-in-Sound c).After-requests-start).long, c.requests-start.ensures.0) in
-    rw (← rw c.in-Sound.is at c.refusal.ensures, z, c.requests-start.ensures.0)
+    let z : length pl - (16 + n) ≡ 4 * n = omega (arith, (sound (goal.at.returns-in-Ok c).After-requests-start).long, c.requests-start.ensures.0) in
+    rw (← rw c.in-Ok.is at c.check.ensures, z, c.requests-start.ensures.0)

@@ -1,37 +1,41 @@
 use mathlib.Core.Path.{◌≡◌, sym, ◌∙◌}
+use lib.ListN.{length}
+use Rattle.std.proofs.lemmas.Result.{err_from_is_err_and}
 use Rattle.model.specs.Refusals.{passes}
-use Rattle.trace.specs.TraceFile.{trace_tried}
-use Rattle.replay.specs.Linked.{Forward}
-use Rattle.replay.proofs.Answered.{check_passes, filled_forward, trace_off, count-off, flags-off, replay-done}
+use Rattle.trace.specs.TraceFile.{requests_at, trace_tried}
+use Rattle.replay.proofs.Answered.{check_passes, check_counts, filled_forward, trace_off, count-off, flags-off, replay-done}
 use Rattle.replay.proofs.replay.Goals as goal
-use Rattle.replay.proofs.replay.Goals.{Else-flags-requests, In-Sound}
+use Rattle.replay.proofs.replay.Goals.{Else-flags-header, In_ok-header}
 
 -- where the trace is sound
-passed : (c : In-Sound) → trace_tried c.args.trace.now ≡ passes
-passed c = check_passes _ _ (rw c.in-Sound.is at c.fill.ensures.answer)
+passed : (c : In_ok-header) → trace_tried c.args.trace.now ≡ passes
+passed c = check_passes _ _ c.in_ok-header.ensures.answer
 
 -- where there are as many flags as requests
-ready : (c : Else-flags-requests) → Forward c.args.trace.now c.args.flags.now c.fill.new.next c.fill.new.prev
-ready c = filled_forward c.fill.ensures (check_passes _ _ (rw c.in-Sound.is at c.fill.ensures.answer)) (c.if-flags-requests.false ∙ c.requests.ensures.0)
+counted : (c : Else-flags-header) → length c.args.flags.now ≡ requests_at c.args.trace.now
+counted c = c.if-flags-header.false ∙ check_counts _ _ c.in_ok-header.ensures.answer
 
-pub returns-then-flags-requests : goal.returns-then-flags-requests
-returns-then-flags-requests c = count-off c.args.trace.now c.args.flags.now (passed (goal.at.returns-then-flags-requests c).In-Sound) (λ e. c.if-flags-requests.true (e ∙ sym c.requests.ensures.0))
+pub returns-in_err-header : goal.returns-in_err-header
+returns-in_err-header c =
+    let p = err_from_is_err_and c.from_residual.result c.from_residual.ensures.1 in
+    rw (p.1, p.2) (trace_off c.args.trace.now c.args.flags.now _ _ c.in_err-header.ensures.answer)
 
-pub tried-requires : goal.tried-requires
-tried-requires c = ready (goal.at.tried-requires c).Else-flags-requests
+pub returns-then-flags-header : goal.returns-then-flags-header
+returns-then-flags-header c =
+    count-off c.args.trace.now c.args.flags.now (passed (goal.at.returns-then-flags-header c).In_ok-header)
+    (λ e. c.if-flags-header.true (e ∙ sym (check_counts _ _ c.in_ok-header.ensures.answer)))
 
-pub totals-requires : goal.totals-requires
-totals-requires c = (ready (goal.at.totals-requires c).Else-flags-requests).back
+pub invariant_of-sound : goal.invariant_of-sound
+invariant_of-sound c =
+    record { linked = filled_forward c.in_ok-header.ensures (passed (goal.at.invariant_of-sound c).In_ok-header) (counted (goal.at.invariant_of-sound c).Else-flags-header) }
 
-pub returns-in-Refused : goal.returns-in-Refused
-returns-in-Refused c = trace_off c.args.trace.now c.args.flags.now _ _ (rw c.in-Refused.is at c.fill.ensures.answer)
+pub returns-in_err-tried : goal.returns-in_err-tried
+returns-in_err-tried c =
+    let p = err_from_is_err_and c.from_residual-in_err-tried.result c.from_residual-in_err-tried.ensures.1 in
+    rw (p.1, p.2) (flags-off c.args.trace.now c.args.flags.now (passed (goal.at.returns-in_err-tried c).In_ok-header)
+    (counted (goal.at.returns-in_err-tried c).Else-flags-header) _ _ c.in_err-tried.ensures)
 
-pub returns-in-Refused-tried : goal.returns-in-Refused-tried
-returns-in-Refused-tried c =
-    flags-off c.args.trace.now c.args.flags.now (passed (goal.at.returns-in-Refused-tried c).In-Sound) (ready (goal.at.returns-in-Refused-tried c).Else-flags-requests).back.count _ _
-    (rw c.in-Refused-tried.is at c.tried.ensures)
-
-pub returns-in-Sound-tried : goal.returns-in-Sound-tried
-returns-in-Sound-tried c =
-    replay-done c.args.trace.now c.args.flags.now (passed (goal.at.returns-in-Sound-tried c).In-Sound) (ready (goal.at.returns-in-Sound-tried c).Else-flags-requests).back.count _
-    (rw c.in-Sound-tried.is at c.tried.ensures) c.totals.ensures
+pub returns : goal.returns
+returns c =
+    replay-done c.args.trace.now c.args.flags.now (passed (goal.at.returns c).In_ok-header) (counted (goal.at.returns c).Else-flags-header) _
+    c.in_ok-tried.ensures c.totals.ensures

@@ -9,4 +9,4 @@ pub returns : goal.returns
 returns c =
     let a = c.args in
     let p = c.record_at in
-    (c.u32_at.ensures.0 ∙ num_level 4 (p.result + 4) (record_at a.trace.now a.t + 4) a.trace.now (omega (arith, p.ensures.0)), c.u32_at.ensures.1)
+    (c.number_at.ensures.0 ∙ num_level 4 (p.result + 4) (record_at a.trace.now a.t + 4) a.trace.now (omega (arith, p.ensures.0)), c.number_at.ensures.1)

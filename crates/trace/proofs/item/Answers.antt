@@ -8,4 +8,4 @@ pub returns : goal.returns
 returns c =
     let a = c.args in
     let p = c.record_at in
-    (c.u16_at.ensures.0 ∙ num_level 2 p.result (record_at a.trace.now a.t) a.trace.now (omega (arith, p.ensures.0)), c.u16_at.ensures.1)
+    (c.number_at.ensures.0 ∙ num_level 2 p.result (record_at a.trace.now a.t) a.trace.now (omega (arith, p.ensures.0)), c.number_at.ensures.1)

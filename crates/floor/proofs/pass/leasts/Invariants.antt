@@ -3,7 +3,4 @@ use Rattle.floor.proofs.Passed.{Passed}
 use Rattle.floor.proofs.pass.leasts.Given as goal
 
 abbrev pub invariant-loop-t : goal.invariant-loop-t
-invariant-loop-t l = Passed l.trace l.rents l.all l.out l.held l.total l.paid l.t
-
-abbrev pub decreases-loop-t : goal.decreases-loop-t
-decreases-loop-t l = l.t
+invariant-loop-t l = Passed l.trace l.rents l.all l.prices l.total l.paid l.t

@@ -4,6 +4,3 @@ use Rattle.links.proofs.chain.link.Given as goal
 
 abbrev pub invariant-loop-t : goal.invariant-loop-t
 invariant-loop-t l = Linking l.items l.initial.next l.initial.chain l.head l.next l.chain l.n l.t
-
-abbrev pub decreases-loop-t : goal.decreases-loop-t
-decreases-loop-t l = l.t

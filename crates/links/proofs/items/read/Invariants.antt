@@ -1,10 +1,6 @@
 -- `links::items::read` meets its contract: the places passed have their items. Assumes nothing.
-use Prim.Native.Nat.{◌-◌}
 use Rattle.links.proofs.Readings.{Reading}
 use Rattle.links.proofs.items.read.Given as goal
 
 abbrev pub invariant-loop-t : goal.invariant-loop-t
 invariant-loop-t l = Reading l.trace l.items l.n l.t
-
-abbrev pub decreases-loop-t : goal.decreases-loop-t
-decreases-loop-t l = l.n - l.t

@@ -1,10 +1,6 @@
 -- `links::turn::turn` meets its contract: the requests passed stand at their next ones. Assumes nothing.
-use Prim.Native.Nat.{◌-◌}
 use Rattle.links.proofs.Turns.{Turning}
 use Rattle.links.proofs.turn.turn.Given as goal
 
 abbrev pub invariant-loop-t : goal.invariant-loop-t
 invariant-loop-t l = Turning l.next l.initial.prev l.prev l.n l.t
-
-abbrev pub decreases-loop-t : goal.decreases-loop-t
-decreases-loop-t l = l.n - l.t
