@@ -1,23 +1,21 @@
 -- What an audit that passes says: the total is the model's cost of allowed contents; and that it has one answer. Assumes nothing.
 use mathlib.Core.Path.{◌≡◌, sym, ◌∙◌, ap}
 use Prim.Native.Nat.{ℕ}
-use native.Mathlib.Omega.{arith}
 use mathlib.Core.Bool.{not}
 use mathlib.Core.List.{List}
 use lib.ListN.{length}
 use lib.Dec.{eqb}
 use borrow.Author.Tests.{eqb-true, not-false}
 use Rattle.model.specs.Model.{Allowed, cost}
-use Rattle.model.specs.Refusals.{passes, row, Answer, fine}
-use Rattle.model.proofs.Refusals.{row_passes, next_passes, answer_fine}
+use Rattle.std.specs.Prelude.{Result}
+use Rattle.model.specs.Refusals.{passes, row, Answer, fine, answered}
+use Rattle.model.specs.declared.Refusal.{Refusal}
+use Rattle.model.proofs.Refusals.{row_passes, next_passes, answer_fine, answered_unique}
 use Rattle.trace.specs.TraceFile.{requests_at, trace_tried, trace_in}
 use Rattle.plan.specs.PlanFile.{stated_at, section_tried, rents_tried}
 use Rattle.replay.specs.Replay.{named, flags_tried, Totals, totals_of}
-use Rattle.replay.specs.Answers.{totals_in}
 use Rattle.replay.proofs.Laws.{flags_allowed, TotalsWithin, totals_within}
-use Rattle.audit.specs.Audit.{plan_flags, plan_rents, plan_cost, audit_tried, audit_of, said}
-use Rattle.audit.specs.declared.Audited.{Audited}
-use Rattle.audit.specs.declared.Audited.TheVariants.{Sound, Refused}
+use Rattle.audit.specs.Audit.{plan_flags, plan_rents, plan_cost, audit_tried, audit_of}
 use Rattle.audit.proofs.Parts.{section_trace, flags_count}
 
 -- an audit that passes, taken apart
@@ -67,17 +65,5 @@ audited_allowed tr pl s e =
     }
 
 -- what the call's promise permits is one answer
-pub audit_unique : (a b : Audited) (x : Answer Totals) → said a ≡ x → said b ≡ x → a ≡ b
-audit_unique (Sound s) (Sound u) x p q =
-    let e : totals_in s ≡ totals_in u = cc in
-    let a : s.total ≡ u.total = ap (λ (k : Totals). k.total) e in
-    let b : s.misses ≡ u.misses = ap (λ (k : Totals). k.misses) e in
-    let c : s.fills ≡ u.fills = ap (λ (k : Totals). k.fills) e in
-    let d : s.strikes ≡ u.strikes = ap (λ (k : Totals). k.strikes) e in
-    λ i. Sound (record { total = a i; misses = b i; fills = c i; strikes = d i })
-audit_unique (Sound s) (Refused r) x p q = absurd (let z : ◌≡◌ {A = ℕ} 0 1 = cc in omega arith)
-audit_unique (Refused r) (Sound s) x p q = absurd (let z : ◌≡◌ {A = ℕ} 0 1 = cc in omega arith)
-audit_unique (Refused r) (Refused s) x p q =
-    let n : r.number ≡ s.number = cc in
-    let m : r.place ≡ s.place = cc in
-    λ i. Refused (record { number = n i; place = m i })
+pub audit_unique : (a b : Result Totals Refusal) (x : Answer Totals) → answered a ≡ x → answered b ≡ x → a ≡ b
+audit_unique = answered_unique

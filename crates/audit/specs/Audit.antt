@@ -1,13 +1,10 @@
 -- The audit of a trace and a plan: refusals 1 to 17, or the totals. Assumes nothing.
 use Rattle.std.specs.Prelude.{ℕ, not, List, eqb}
 use Rattle.model.specs.Model.{cost}
-use Rattle.model.specs.Refusals.{Tried, passes, row, next, Answer, fine, refused, answer}
+use Rattle.model.specs.Refusals.{Tried, passes, row, next, Answer, answer}
 use Rattle.trace.specs.TraceFile.{requests_at, trace_in}
 use Rattle.plan.specs.PlanFile.{shape_of, flags_part, rents_at, stated_at, section_tried, rents_tried}
 use Rattle.replay.specs.Replay.{named, flags_tried, Totals, totals_of}
-use Rattle.audit.specs.declared.Audited.{Audited}
-use Rattle.audit.specs.declared.Audited.TheVariants.{Sound, Refused}
-use Rattle.replay.specs.Answers.{totals_in}
 
 -- the flags that a plan has for a trace
 abbrev pub plan_flags : (trace plan : List ℕ) → List ℕ
@@ -32,8 +29,3 @@ audit_tried tr pl =
 -- the audit
 abbrev pub audit_of : (trace plan : List ℕ) → Answer Totals
 audit_of tr pl = answer (audit_tried tr pl) (totals_of (trace_in tr) (plan_flags tr pl))
-
--- document 01's number and values for each case of `Audited`
-abbrev pub said : Audited → Answer Totals
-said (Sound s) = fine (totals_in s)
-said (Refused r) = refused r.number r.place

@@ -2,40 +2,31 @@
 #![tactic(auto)]
 
 ghost use Rattle.std.specs.Prelude.{◌≡◌};
-ghost use Rattle.audit.specs.Audit.{audit_of, said};
+ghost use Rattle.model.specs.Refusals.{passes, answered};
+ghost use Rattle.plan.specs.PlanFile.{section_tried};
+ghost use Rattle.audit.specs.Audit.{plan_rents, audit_of};
 
-use model::{Outcome, Refusal};
-use replay::{Replayed, Totals};
-
-mod rents;
-
-// What an audit answers.
-#[derive(Clone, Copy)]
-pub enum Audited {
-    Sound(Totals),
-    Refused(Refusal),
-}
+use model::{Refusal, Requests};
+use replay::Totals;
 
 // The totals of a plan's flags, if none of refusals 1 to 17 holds. The stated cost is compared in all its 64 bits.
-pub fn audit(trace: &[u8], plan: &[u8]) -> Audited
-    ensures { said result ≡ audit_of trace.now plan.now }
+pub fn audit(trace: &[u8], plan: &[u8]) -> Result<Totals, Refusal>
+    ensures { answered result ≡ audit_of trace.now plan.now }
 {
-    if let Outcome::Refused(r) = plan::refusal(trace, plan) {
-        return Audited::Refused(r);
+    plan::check(trace, plan)?;
+    let totals = replay::replay(trace, plan::flags(trace, plan))?;
+    if plan::stated_cost(plan) != totals.total {
+        return Err(Refusal::StatedCost);
     }
-    match replay::replay(trace, plan::flags(trace, plan)) {
-        Replayed::Refused(r) => Audited::Refused(r),
-        Replayed::Done(totals) => {
-            if plan::stated_cost(plan) != totals.total {
-                return Audited::Refused(Refusal {
-                    number: 16,
-                    place: 0,
-                });
-            }
-            match rents::tried(trace, plan) {
-                Outcome::Refused(r) => Audited::Refused(r),
-                Outcome::Sound => Audited::Sound(totals),
-            }
-        }
-    }
+    let mut room = [0; Requests::MAX];
+    plan::check_rents(rents(trace, plan, &mut room))?;
+    Ok(totals)
+}
+
+// The rents of a plan as numbers, in the room that is lent: one for each request, if none of refusals 1 to 12 holds.
+pub fn rents<'a>(trace: &[u8], plan: &[u8], room: &'a mut [u32; Requests::MAX]) -> &'a [u32]
+    ensures { section_tried trace.now plan.now ≡ passes → result.now ≡ plan_rents trace.now plan.now }
+{
+    plan::read_rents(plan::rents(trace, plan), room);
+    &room[..trace::requests(trace).min(Requests::MAX)]
 }

@@ -1,21 +1,22 @@
 -- From the rows that are tried to the answers of `sides` and `floor`, and that each answer is the only one. Assumes nothing.
-use mathlib.Core.Path.{◌≡◌, ◌∙◌, ap}
+use mathlib.Core.Path.{◌≡◌}
 use Prim.Native.Nat.{ℕ, ◌+◌, ◌<◌}
 use native.Mathlib.Omega.{arith}
 use mathlib.Core.Bool.{not}
 use mathlib.Core.List.{List, []}
 use lib.Dec.{eqb}
 use lib.ListN.{length}
-use lib.IntN.{pos, sub_ℕ}
+use lib.IntN.{ℤ, pos, sub_ℕ}
+use Rattle.std.specs.Prelude.{Result}
 use borrow.Author.Tests.{eq-eqb, ne_eqb, eqb-true, not-false}
 use Rattle.model.specs.Model.{floor}
 use Rattle.model.specs.Plans.{rents_in}
-use Rattle.model.specs.Refusals.{passes, refusal, next, fine, refused}
+use Rattle.model.specs.Refusals.{passes, refusal, next, fine, refused, answered}
 use Rattle.model.specs.declared.Refusal.{Refusal}
 use Rattle.model.proofs.Duality.{weak_duality, sub_eq, eq_sub}
 use Rattle.model.proofs.Sanity.{nothing, nothing_allowed}
 use Rattle.model.proofs.Bounds.{no_plan_above}
-use Rattle.model.proofs.Refusals.{row_passes, next_passes, answer_fine, answer_refused}
+use Rattle.model.proofs.Refusals.{row_passes, next_passes, answer_fine, answer_refused, answered_unique}
 use Rattle.trace.specs.TraceFile.{requests_at, trace_tried, trace_in}
 use Rattle.trace.proofs.Sound.{sound_trace, trace_within}
 use Rattle.plan.specs.PlanFile.{rents_tried}
@@ -23,14 +24,10 @@ use Rattle.plan.proofs.Sound.{rents_sound}
 use Rattle.replay.specs.Replay.{count_tried}
 use Rattle.links.specs.Linked.{nexts_in}
 use Rattle.links.proofs.Answered.{next_at}
-use Rattle.floor.specs.Floor.{floor_tried, floor_of, said}
-use Rattle.floor.specs.Sides.{pair_in, sides_of, said_sides}
+use Rattle.floor.specs.Floor.{floor_tried, floor_of}
+use Rattle.floor.specs.Sides.{pair_in, sides_of}
 use Rattle.floor.specs.Pass.{Ready}
 use Rattle.floor.specs.declared.Pair.{Pair}
-use Rattle.floor.specs.declared.Sided.{Sided}
-use Rattle.floor.specs.declared.Sided.TheVariants as sided
-use Rattle.floor.specs.declared.Floored.{Floored}
-use Rattle.floor.specs.declared.Floored.TheVariants as floored
 use Rattle.floor.proofs.Passed.{rents_all_lem, taken_top}
 
 -- ---- the rows
@@ -101,21 +98,10 @@ module _ (tr rents : List ℕ) where
 
 -- ---- one answer
 
--- a refusal is its number and its place
-refusal_is : (r s : Refusal) → r.number ≡ s.number → r.place ≡ s.place → r ≡ s
-refusal_is r s n m =
-    ap (λ (i : ℕ). record { number = i; place = r.place }) n ∙ ap (λ (i : ℕ). record { number = s.number; place = i }) m
-
 -- any two answers for the sides that the promise permits coincide
-pub sides_unique : (tr rents : List ℕ) (a b : Sided) → said_sides a ≡ sides_of tr rents → said_sides b ≡ sides_of tr rents → a ≡ b
-sides_unique tr rents (sided.Both p) (sided.Both q) x y = cc
-sides_unique tr rents (sided.Both p) (sided.Refused r) x y = absurd (let z : ◌≡◌ {A = ℕ} 0 1 = cc in omega arith)
-sides_unique tr rents (sided.Refused r) (sided.Both q) x y = absurd (let z : ◌≡◌ {A = ℕ} 0 1 = cc in omega arith)
-sides_unique tr rents (sided.Refused r) (sided.Refused s) x y = ap sided.Refused (refusal_is r s (cc) (cc))
+pub sides_unique : (tr rents : List ℕ) (a b : Result Pair Refusal) → answered a ≡ sides_of tr rents → answered b ≡ sides_of tr rents → a ≡ b
+sides_unique tr rents a b x y = answered_unique a b (sides_of tr rents) x y
 
 -- any two floors that the promise permits coincide
-pub floor_unique : (tr rents : List ℕ) (a b : Floored) → said a ≡ floor_of tr rents → said b ≡ floor_of tr rents → a ≡ b
-floor_unique tr rents (floored.Floor p) (floored.Floor q) x y = cc
-floor_unique tr rents (floored.Floor p) (floored.Refused r) x y = absurd (let z : ◌≡◌ {A = ℕ} 0 1 = cc in omega arith)
-floor_unique tr rents (floored.Refused r) (floored.Floor q) x y = absurd (let z : ◌≡◌ {A = ℕ} 0 1 = cc in omega arith)
-floor_unique tr rents (floored.Refused r) (floored.Refused s) x y = ap floored.Refused (refusal_is r s (cc) (cc))
+pub floor_unique : (tr rents : List ℕ) (a b : Result ℤ Refusal) → answered a ≡ floor_of tr rents → answered b ≡ floor_of tr rents → a ≡ b
+floor_unique tr rents a b x y = answered_unique a b (floor_of tr rents) x y

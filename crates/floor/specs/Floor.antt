@@ -2,12 +2,10 @@
 use Rattle.std.specs.Prelude.{ℕ, List, ℤ}
 use Rattle.model.specs.Model.{floor}
 use Rattle.model.specs.Plans.{rents_in}
-use Rattle.model.specs.Refusals.{Tried, next, Answer, fine, refused, answer}
+use Rattle.model.specs.Refusals.{Tried, next, Answer, answer}
 use Rattle.trace.specs.TraceFile.{requests_at, trace_tried, trace_in}
 use Rattle.plan.specs.PlanFile.{rents_tried}
 use Rattle.replay.specs.Replay.{count_tried}
-use Rattle.floor.specs.declared.Floored.{Floored}
-use Rattle.floor.specs.declared.Floored.TheVariants.{Floor, Refused}
 
 -- rows 1 to 8, 11, 17
 unfoldable pub floor_tried : (trace rents : List ℕ) → Tried
@@ -16,8 +14,3 @@ floor_tried tr rents = next (trace_tried tr) (next (count_tried (requests_at tr)
 -- the floor
 abbrev pub floor_of : (trace rents : List ℕ) → Answer ℤ
 floor_of tr rents = answer (floor_tried tr rents) (floor (trace_in tr) (rents_in rents))
-
--- document 01's number and values for each case of `Floored`
-abbrev pub said : Floored → Answer ℤ
-said (Floor z) = fine z
-said (Refused r) = refused r.number r.place

@@ -2,12 +2,10 @@
 use Rattle.std.specs.Prelude.{ℕ, ◌*◌, List}
 use Rattle.model.specs.Model.{leasts, rents_all}
 use Rattle.model.specs.Plans.{rents_in}
-use Rattle.model.specs.Refusals.{Answer, fine, refused, answer}
+use Rattle.model.specs.Refusals.{Answer, answer}
 use Rattle.trace.specs.TraceFile.{trace_in, slots_at}
 use Rattle.floor.specs.Floor.{floor_tried}
 use Rattle.floor.specs.declared.Pair.{Pair}
-use Rattle.floor.specs.declared.Sided.{Sided}
-use Rattle.floor.specs.declared.Sided.TheVariants.{Both, Refused}
 
 -- the least prices added up, and w times the sum of all rents
 abbrev pub pair_in : (trace rents : List ℕ) → Pair
@@ -17,8 +15,3 @@ pair_in tr rents =
 -- the two sides, with the refusals of the floor
 abbrev pub sides_of : (trace rents : List ℕ) → Answer Pair
 sides_of tr rents = answer (floor_tried tr rents) (pair_in tr rents)
-
--- document 01's number and values for each case of `Sided`
-abbrev pub said_sides : Sided → Answer Pair
-said_sides (Both p) = fine p
-said_sides (Refused r) = refused r.number r.place

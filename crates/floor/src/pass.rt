@@ -15,7 +15,7 @@ pub fn from_out(trace: &[u8], t: usize, none: u64, kept: u64) -> u64
     requires { (none < 4294967296) × (kept < 4294967296) }
     ensures { result ≡ cond (eqb (kind_at trace.now t) 1) none (cost_at trace.now t + min none (fill_at trace.now + kept)) }
 {
-    if trace::kind(trace, t) == 1 {
+    if trace::is_write(trace, t) {
         return none;
     }
     trace::cost(trace, t) + none.min(trace::fill(trace) + kept)
@@ -26,7 +26,7 @@ pub fn from_in(trace: &[u8], t: usize, none: u64, kept: u64) -> u64
     requires { (none < 4294967296) × (kept < 4294967296) }
     ensures { result ≡ cond (eqb (kind_at trace.now t) 1) (cost_at trace.now t) 0 + min none kept }
 {
-    if trace::kind(trace, t) != 1 {
+    if !trace::is_write(trace, t) {
         return none.min(kept);
     }
     trace::cost(trace, t) + none.min(kept)

@@ -1,30 +1,18 @@
 -- What the judge knows of the two sides of the floor that it is handed.
 use mathlib.Core.Path.{◌≡◌, sym, ◌∙◌}
-use Prim.Native.Nat.{ℕ, ◌≤◌}
+use Prim.Native.Nat.{ℕ}
 use mathlib.Core.Bool.{not}
 use mathlib.Core.List.{List}
-use lib.ListN.{length, take, replicate, length-replicate}
 use lib.IntN.{sub_ℕ}
 use Rattle.model.specs.Refusals.{passes, row, Answer, fine, answer}
-use Rattle.model.specs.Numbers.{max_requests}
-use Rattle.trace.specs.TraceFile.{requests_at}
-use Rattle.plan.specs.PlanFile.{rents_of}
-use Rattle.plan.specs.Reading.{rents_into}
 use Rattle.audit.specs.Audit.{plan_rents, plan_cost, audit_tried}
 use Rattle.floor.specs.Sides.{pair_in, sides_of}
 use Rattle.floor.specs.declared.Pair.{Pair}
 use Rattle.judge.specs.Judge.{isℤ, judge_of}
 use Rattle.judge.proofs.Passes.{SoundPair}
-use Rattle.judge.proofs.Weighing.{few_requests, rents_read, floor_passes, judged_by_sides}
+use Rattle.judge.proofs.Weighing.{floor_passes, judged_by_sides}
 
 module _ (trace plan : List ℕ) (sound : SoundPair trace plan) where
-  -- the first n numbers read are the plan's rents
-  pub lent_rents : (n : ℕ) (part out : List ℕ) → n ≡ requests_at trace → part ≡ rents_of trace plan
-      → out ≡ rents_into part (replicate max_requests 0) → take n out ≡ plan_rents trace plan
-  lent_rents n part out e p o =
-      let h : requests_at trace ≤ length (replicate {A = ℕ} max_requests 0) = rw length-replicate (few_requests trace plan sound) in
-      rw (o, p, e) (rents_read trace plan sound (replicate max_requests 0) h)
-
   -- the two sides of the plan's floor are answered
   pub sides_known : (rents : List ℕ) (s : Answer Pair) → rents ≡ plan_rents trace plan → s ≡ sides_of trace rents
       → s ≡ fine (pair_in trace (plan_rents trace plan))

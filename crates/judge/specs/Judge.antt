@@ -2,11 +2,9 @@
 use Rattle.std.specs.Prelude.{ℕ, Bool, false, not, List, eqb, ℤ, pos, negsuc}
 use Rattle.model.specs.Model.{floor}
 use Rattle.model.specs.Plans.{rents_in}
-use Rattle.model.specs.Refusals.{Tried, passes, row, next, Answer, fine, refused, answer}
+use Rattle.model.specs.Refusals.{Tried, passes, row, next, Answer, answer}
 use Rattle.trace.specs.TraceFile.{trace_in}
 use Rattle.audit.specs.Audit.{plan_rents, plan_cost, audit_tried}
-use Rattle.judge.specs.declared.Judged.{Judged}
-use Rattle.judge.specs.declared.Judged.TheVariants.{Accepted, Refused}
 
 -- whether a signed number is this one
 abbrev pub isℤ : ℤ → ℕ → Bool
@@ -24,8 +22,3 @@ judge_tried tr pl = next (audit_tried tr pl) (row (not (isℤ (plan_floor tr pl)
 -- the verdict: acceptance gives the cost
 abbrev pub judge_of : (trace plan : List ℕ) → Answer ℕ
 judge_of tr pl = answer (judge_tried tr pl) (plan_cost tr pl)
-
--- document 01's number and values for each case of `Judged`
-abbrev pub said : Judged → Answer ℕ
-said (Accepted c) = fine c
-said (Refused r) = refused r.number r.place

@@ -8,25 +8,16 @@ use lib.Ieee.{binary64, in_float, of_int, to_unsigned}
 use lib.Ieee.Exact.{HasValue}
 use lib.Ieee.Back.{round_whole, unsigned_back}
 use Rattle.model.specs.Numbers.{max_plan_cost}
-use Rattle.ratio.specs.Ratio.{said, as_float, ratio_of}
-use Rattle.ratio.specs.declared.Rated.{Rated}
-use Rattle.ratio.specs.declared.Rated.TheVariants.{Gave, Refused}
-
--- a refusal is its number and place
-same_refusal : (n m p q : ℕ) → n ≡ m → p ≡ q
-    → Refused (record { number = n; place = p }) ≡ Refused (record { number = m; place = q })
-same_refusal n m p q a b = rw (a, b)
-
--- two answers that say the same are the same
-said_once : (a b : Rated) → said a ≡ said b → a ≡ b
-said_once (Gave g) (Gave h) e = cc
-said_once (Gave g) (Refused r) e = let z : ◌≡◌ {A = ℕ} 0 1 = cc in absurd (omega arith)
-said_once (Refused r) (Gave g) e = let z : ◌≡◌ {A = ℕ} 0 1 = cc in absurd (omega arith)
-said_once (Refused r) (Refused s) e = same_refusal _ _ _ _ (cc) (cc)
+use Rattle.std.specs.Prelude.{Result}
+use Rattle.model.specs.Refusals.{answered}
+use Rattle.model.specs.declared.Refusal.{Refusal}
+use Rattle.model.proofs.Refusals.{answered_unique}
+use Rattle.ratio.specs.Ratio.{as_float, ratio_of}
+use Rattle.ratio.specs.declared.Gap.{Gap}
 
 -- any two permitted answers coincide
-pub ratio_unique : (least measured : ℕ) (a b : Rated) → said a ≡ ratio_of least measured → said b ≡ ratio_of least measured → a ≡ b
-ratio_unique least measured a b p q = said_once a b (cc)
+pub ratio_unique : (least measured : ℕ) (a b : Result Gap Refusal) → answered a ≡ ratio_of least measured → answered b ≡ ratio_of least measured → a ≡ b
+ratio_unique least measured a b p q = answered_unique a b (ratio_of least measured) p q
 
 -- a cost as a float, when nothing is lost: the float is exactly c / 1 and not negative, and going back gives c
 pub record Exactly (c : ℕ) : Type 0 where

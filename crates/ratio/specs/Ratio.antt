@@ -3,11 +3,9 @@ use Rattle.std.specs.Prelude.{ℕ, cond, ◌||◌, eqb, ltb, pos, Float}
 use Rattle.std.specs.Float.{binary64}
 use Rattle.std.specs.Float.Ieee.{of_int, div}
 use Rattle.model.specs.Numbers.{max_plan_cost}
-use Rattle.model.specs.Refusals.{Tried, passes, row, Answer, fine, refused, answer}
+use Rattle.model.specs.Refusals.{Tried, passes, row, Answer, answer}
 use Rattle.ratio.specs.declared.Gap.{Gap}
 use Rattle.ratio.specs.declared.Gap.TheVariants.{NoCost, NoRatio, Ratio}
-use Rattle.ratio.specs.declared.Rated.{Rated}
-use Rattle.ratio.specs.declared.Rated.TheVariants.{Gave, Refused}
 
 -- rows 20 and 21
 unfoldable pub ratio_tried : (least measured : ℕ) → Tried
@@ -30,8 +28,3 @@ gap_of least measured =
 -- the gap ratio
 abbrev pub ratio_of : (least measured : ℕ) → Answer Gap
 ratio_of least measured = answer (ratio_tried least measured) (gap_of least measured)
-
--- document 01's number and values for each case of `Rated`
-abbrev pub said : Rated → Answer Gap
-said (Gave g) = fine g
-said (Refused r) = refused r.number r.place

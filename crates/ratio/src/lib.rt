@@ -2,53 +2,33 @@
 #![tactic(auto)]
 
 ghost use Rattle.std.specs.Prelude.{◌≡◌};
-ghost use Rattle.ratio.specs.Ratio.{said, ratio_of};
+ghost use Rattle.model.specs.Refusals.{answered};
+ghost use Rattle.ratio.specs.Ratio.{ratio_of};
 
 use model::{PlanCost, Refusal};
 
 // How far a measured cost is above the least: both are 0, only the least is 0, or their quotient.
-#[derive(Clone, Copy)]
+#[derive(Clone, Copy, Debug, PartialEq)]
 pub enum Gap {
     NoCost,
     NoRatio,
     Ratio(f64),
 }
 
-// What the ratio call answers.
-#[derive(Clone, Copy)]
-pub enum Rated {
-    Gave(Gap),
-    Refused(Refusal),
-}
-
 // The measured cost by the least.
 #[tactic(auto, unfolding(crate::specs::Ratio::ratio_tried))]
-pub fn ratio(least: u64, measured: u64) -> Rated
-    ensures { said result ≡ ratio_of least measured }
+pub fn ratio(least: u64, measured: u64) -> Result<Gap, Refusal>
+    ensures { answered result ≡ ratio_of least measured }
 {
-    if least > PlanCost::MAX {
-        return Rated::Refused(Refusal {
-            number: 20,
-            place: 0,
-        });
-    }
-    if measured > PlanCost::MAX {
-        return Rated::Refused(Refusal {
-            number: 20,
-            place: 0,
-        });
+    if least > PlanCost::MAX || measured > PlanCost::MAX {
+        return Err(Refusal::CostTooLarge);
     }
     if measured < least {
-        return Rated::Refused(Refusal {
-            number: 21,
-            place: 0,
-        });
+        return Err(Refusal::BelowLeast);
     }
-    if least == 0 {
-        if measured == 0 {
-            return Rated::Gave(Gap::NoCost);
-        }
-        return Rated::Gave(Gap::NoRatio);
+    match (least, measured) {
+        (0, 0) => Ok(Gap::NoCost),
+        (0, _) => Ok(Gap::NoRatio),
+        _ => Ok(Gap::Ratio(measured as f64 / least as f64)),
     }
-    Rated::Gave(Gap::Ratio((measured as f64) / (least as f64)))
 }
