@@ -1,9 +1,11 @@
 -- The audit of a trace and a plan: refusals 1 to 17, or the totals. Assumes nothing.
-use Rattle.std.specs.Prelude.{ℕ, not, List, eqb}
+use Rattle.std.specs.Prelude.{ℕ, not, List, eqb, take, min}
 use Rattle.model.specs.Model.{cost}
 use Rattle.model.specs.Refusals.{Tried, passes, row, next, Answer, answer}
 use Rattle.trace.specs.TraceFile.{requests_at, trace_in}
-use Rattle.plan.specs.PlanFile.{shape_of, flags_part, rents_at, stated_at, section_tried, rents_tried}
+use Rattle.model.specs.Numbers.{max_requests}
+use Rattle.plan.specs.PlanFile.{shape_of, flags_part, rents_of, rents_at, stated_at, section_tried, rents_tried}
+use Rattle.plan.specs.Reading.{rents_into}
 use Rattle.replay.specs.Replay.{named, flags_tried, Totals, totals_of}
 
 -- the flags that a plan has for a trace
@@ -13,6 +15,10 @@ plan_flags tr pl = flags_part (shape_of (requests_at tr)) pl
 -- the rents that a plan has for a trace
 abbrev pub plan_rents : (trace plan : List ℕ) → List ℕ
 plan_rents tr pl = rents_at (shape_of (requests_at tr)) pl
+
+-- the first places of a lent list that the plan's rents are read into, one for each request
+abbrev pub rents_read : (trace plan room : List ℕ) → List ℕ
+rents_read tr pl room = take (min (requests_at tr) max_requests) (rents_into (rents_of tr pl) room)
 
 -- the replayed cost
 abbrev pub plan_cost : (trace plan : List ℕ) → ℕ

@@ -4,7 +4,7 @@
 ghost use Rattle.std.specs.Prelude.{◌≡◌};
 ghost use Rattle.model.specs.Refusals.{passes, answered};
 ghost use Rattle.plan.specs.PlanFile.{section_tried};
-ghost use Rattle.audit.specs.Audit.{plan_rents, audit_of};
+ghost use Rattle.audit.specs.Audit.{plan_rents, rents_read, audit_of};
 
 use model::{Refusal, Requests};
 use replay::Totals;
@@ -23,9 +23,11 @@ pub fn audit(trace: &[u8], plan: &[u8]) -> Result<Totals, Refusal>
     Ok(totals)
 }
 
-// The rents of a plan as numbers, in the room that is lent: one for each request, if none of refusals 1 to 12 holds.
+// The rents of a plan as numbers, in the room that is lent: one for each request, if none of refusals 1 to 12 holds, and else what
+// stood there.
 pub fn rents<'a>(trace: &[u8], plan: &[u8], room: &'a mut [u32; Requests::MAX]) -> &'a [u32]
-    ensures { section_tried trace.now plan.now ≡ passes → result.now ≡ plan_rents trace.now plan.now }
+    ensures read { result.now ≡ rents_read trace.now plan.now room.old }
+    ensures sound { section_tried trace.now plan.now ≡ passes → result.now ≡ plan_rents trace.now plan.now }
 {
     plan::read_rents(plan::rents(trace, plan), room);
     &room[..trace::requests(trace).min(Requests::MAX)]

@@ -7,6 +7,7 @@ mod part;
 ghost use Rattle.std.specs.Prelude.{◌≡◌, None, Ok, IfSome};
 ghost use Rattle.disk.specs.Load.{Holds, Takes};
 
+pub use part::PATH_MAX;
 use std::env::FillError;
 use std::fmt::InlineText;
 use std::io::Read;

@@ -1,13 +1,12 @@
 -- The rows of a trace's bytes where t requests are behind: the lists are the chart of the first t, and the rest is kept. Assumes nothing.
-use mathlib.Core.Path.{◌≡◌, refl, sym, ◌∙◌, ap}
+use mathlib.Core.Path.{◌≡◌, sym, ◌∙◌, ap}
 use Prim.Native.Nat.{ℕ, suc, ◌+◌, ◌≤◌, ◌<◌}
 use native.Mathlib.Numerals.{add-one}
 use native.Mathlib.Omega.{arith}
 use mathlib.Core.Bool.{cond}
 use mathlib.Core.List.{List, ◌++◌, append_assoc}
-use lib.ListN.{length, get_or, drop, set, replicate, length-set, length-replicate, get_or-append}
+use lib.ListN.{length, get_or, drop, set, length-set, get_or-append}
 use lib.Seq.{drop-cons, set_at}
-use borrow.Author.Tests.{lt-ltb, le-ltb, eq-eqb, ne_eqb}
 use Rattle.model.specs.Numbers.{max_slots}
 use Rattle.model.specs.Plans.{flags_in, request_at, contents}
 use Rattle.model.specs.Links.{prev_of}
@@ -16,21 +15,9 @@ use Rattle.trace.specs.TraceFile.{requests_at, trace_in}
 use Rattle.trace.proofs.Sound.{reqs_length}
 use Rattle.replay.specs.Linked.{flag_at}
 use Rattle.replay.proofs.Linked.{held_before}
-use Rattle.lanes.specs.Lanes.{first_free, place_at, chart_to, rows_of}
-use Rattle.lanes.specs.Steps.{Ready, Turn, place_by, Laying}
+use Rattle.lanes.specs.Lanes.{place_at, chart_to, rows_of}
+use Rattle.lanes.specs.Steps.{Ready, place_by, Laying}
 use Rattle.lanes.proofs.Charts.{keeper_below, chart_place_low, chart_each}
-
--- ---- the row of one request, by what the tests on the lists say
-
-module _ (flags prevs busy rows : List ℕ) (t p : ℕ) (e : p ≡ get_or prevs t 0) where
-  pub place_held : p < length flags → get_or flags p 0 ≡ 1 → get_or rows p 0 ≡ place_by flags prevs busy rows t
-  place_held l h = rw (← e, lt-ltb p (length flags) l, eq-eqb (get_or flags p 0) 1 h)
-
-  pub place_dropped : p < length flags → (get_or flags p 0 ≡ 1 → ⊥) → first_free busy ≡ place_by flags prevs busy rows t
-  place_dropped l h = rw (← e, lt-ltb p (length flags) l, ne_eqb (get_or flags p 0) 1 h)
-
-  pub place_new : length flags ≤ p → first_free busy ≡ place_by flags prevs busy rows t
-  place_new l = rw (← e, le-ltb p (length flags) l)
 
 -- ---- the loop
 
@@ -41,15 +28,6 @@ pub record Drawing (tr flags old busy rows : List ℕ) (t : ℕ) : Type 0 where
   pub spare : length busy ≡ suc max_slots
   pub taken : busy ≡ (chart_to (trace_in tr).reqs (flags_in flags) t).busy
   pub given : rows ≡ (chart_to (trace_in tr).reqs (flags_in flags) t).rows ++ drop t old
-
-pub drawing_start : (tr flags old : List ℕ) → Drawing tr flags old (replicate (suc max_slots) 0) old 0
-drawing_start tr flags old = record {
-  upto = omega arith;
-  long = refl;
-  spare = length-replicate {A = ℕ} (suc max_slots) 0;
-  taken = refl;
-  given = refl;
-}
 
 module _ {tr flags prevs old busy rows : List ℕ} {t : ℕ} (b : Ready tr flags prevs old) (v : Drawing tr flags old busy rows t) where
   -- the row by the lists is that of the chart
@@ -67,14 +45,7 @@ module _ {tr flags prevs old busy rows : List ℕ} {t : ℕ} (b : Ready tr flags
       rw (held_before b.back t n, e, b.back.prev t n) k)
       (λ e. rw (held_before b.back t n, e, v.taken))
 
-  pub drawing_turn : t < length flags → Turn flags rows t
-  drawing_turn l = record {
-    here = l;
-    few = omega (arith, b.back.count, b.back.sound.requests);
-    long = omega (arith, b.long, v.long);
-  }
-
-  -- and one of those that there are
+  -- and is one of those that there are
   pub drawing_low : t < length flags → place_by flags prevs busy rows t ≤ max_slots
   drawing_low l =
       rw (drawing_place l)

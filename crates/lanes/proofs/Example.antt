@@ -8,7 +8,7 @@ use mathlib.Core.List.{List, [], ◌∷◌}
 use Rattle.fields.specs.Bytes.{num_at, bytes_of}
 use Rattle.model.specs.Model.{Request, Trace}
 use Rattle.model.specs.Plans.{flags_in}
-use Rattle.model.specs.declared.Outcome.TheVariants.{Sound}
+use Rattle.std.specs.Prelude.{Ok}
 use Rattle.trace.specs.TraceFile.{trace_tried, trace_in, trace_bytes}
 use Rattle.replay.specs.Replay.{flags_tried, replay_tried}
 use Rattle.lanes.specs.Lanes.{Drawn, rows_of, Laned}
@@ -27,7 +27,7 @@ abbrev flags : List ℕ
 flags = 1 ∷ 1 ∷ 0 ∷ 1 ∷ 0 ∷ 0 ∷ []
 
 -- what the call leaves in a lent list of eight
-pub example_laned : Laned bytes flags (7 ∷ 7 ∷ 7 ∷ 7 ∷ 7 ∷ 7 ∷ 7 ∷ 7 ∷ []) Sound (0 ∷ 1 ∷ 0 ∷ 0 ∷ 0 ∷ 0 ∷ 7 ∷ 7 ∷ [])
+pub example_laned : Laned bytes flags (7 ∷ 7 ∷ 7 ∷ 7 ∷ 7 ∷ 7 ∷ 7 ∷ 7 ∷ []) (Ok tt) (0 ∷ 1 ∷ 0 ∷ 0 ∷ 0 ∷ 0 ∷ 7 ∷ 7 ∷ [])
 unfolding replay_tried trace_tried flags_tried num_at bytes_of rows_of
 example_laned = record { answer = refl; laid_out = refl }
 

@@ -1,14 +1,15 @@
 -- The first free row, and how many rows are busy. Assumes nothing.
 use mathlib.Core.Path.{◌≡◌, refl}
 use Prim.Native.Nat.{ℕ, zero, suc, ◌+◌, ◌≤◌, ◌<◌}
-use native.Mathlib.Numerals.{add-one}
 use native.Mathlib.Omega.{arith}
 use mathlib.Core.Bool.{cond}
 use mathlib.Core.List.{List, [], ◌∷◌}
-use lib.ListN.{length, get_or, set, drop, drop_of_length-le}
-use lib.Seq.{drop-cons}
-use lib.Dec.{eqb}
-use borrow.Author.Tests.{eqb-true, eq-eqb, ne_eqb}
+use lib.ListN.{length, get_or, set}
+use lib.Dec.{eqb, ltb}
+use borrow.Author.Tests.{eqb-true, ltb-false}
+use Rattle.std.specs.List.{position, position_or_len}
+use Rattle.std.specs.Option.{unwrap_or}
+use Rattle.std.proofs.lemmas.List.Recursion.{is_position_or_len}
 use Rattle.model.proofs.Sums.{split}
 use Rattle.lanes.specs.Lanes.{first_free}
 
@@ -38,26 +39,18 @@ ones_set [] i v h = absurd (omega arith)
 ones_set (b ∷ l) zero v h = omega arith
 ones_set (b ∷ l) (suc i) v h = omega (arith, ones_set l i v (omega arith))
 
--- ---- the search for it
+-- it is where the library's search stops
+free_is : (l : List ℕ) → first_free l ≡ position_or_len (λ b. eqb b 0) l
+free_is = is_position_or_len first_free (λ b. eqb b 0) refl (λ b l. let e : 1 + first_free l ≡ suc (first_free l) = omega arith in rw e)
 
--- r rows are busy, and the first free one of the others decides
-pub record Busy (l : List ℕ) (r : ℕ) : Type 0 where
-  pub upto : r ≤ length l
-  pub rest : r + first_free (drop r l) ≡ first_free l
+free_long : (l : List ℕ) → first_free l ≤ length l
+free_long [] = omega arith
+free_long (b ∷ l) = split (eqb b 0) (λ e. rw e (omega arith)) (λ e. rw e (omega (arith, free_long l)))
 
-pub busy_start : (l : List ℕ) → Busy l 0
-busy_start l = record { upto = omega arith; rest = omega arith }
-
-module _ {l : List ℕ} {r : ℕ} (v : Busy l r) where
-  pub busy_hit : r < length l → get_or l r 0 ≡ 0 → r ≡ first_free l
-  busy_hit h e =
-      let k = rw (drop-cons l r 0 h, eq-eqb (get_or l r 0) 0 e) at v.rest in
-      omega arith
-
-  pub busy_on : r < length l → (get_or l r 0 ≡ 0 → ⊥) → Busy l (r + 1)
-  busy_on h e =
-      let k = rw (drop-cons l r 0 h, ne_eqb (get_or l r 0) 0 e) at v.rest in
-      record { upto = omega arith; rest = rw add-one (omega arith) }
-
-  pub busy_end : length l ≤ r → r ≡ first_free l
-  busy_end h = let k = rw (drop_of_length-le l {i = r} h) at v.rest in omega arith
+-- what the search finds, or as many as there are
+pub found : (l : List ℕ) → unwrap_or (position (λ b. eqb b 0) l) (length l) ≡ first_free l
+found l =
+    let e = free_is l in
+    split (ltb (first_free l) (length l))
+    (λ h. rw (← e, h))
+    (λ h. rw (← e, h) (omega (arith, ltb-false _ _ h, free_long l)))

@@ -12,20 +12,20 @@ use Rattle.model.specs.Numbers.{max_slots, max_requests}
 use Rattle.model.specs.Model.{Trace}
 use Rattle.model.specs.Plans.{Flags, flags_in, request_at, contents, SoundFlags}
 use Rattle.model.specs.Links.{prev_to, prev_of}
-use Rattle.model.specs.Refusals.{Tried, passes, said, fine, refused}
+use Rattle.std.specs.Prelude.{Result, Ok}
+use Rattle.model.specs.Refusals.{passes, refusal, number_of, place_of, said, fine, refused}
 use Rattle.model.specs.declared.Refusal.{Refusal}
-use Rattle.model.specs.declared.Outcome.{Outcome}
-use Rattle.model.specs.declared.Outcome.TheVariants.{Sound, Refused}
-use Rattle.model.proofs.Refusals.{answer_fine, answer_refused}
-use Rattle.trace.specs.TraceFile.{requests_at, trace_in}
-use Rattle.trace.specs.declared.Checked.{Checked}
+use Rattle.model.proofs.Refusals.{answer_fine, answer_refused, said_unique}
+use Rattle.trace.specs.TraceFile.{requests_at, trace_tried, trace_in}
+use Rattle.trace.specs.Answers.{check_of, header_in}
+use Rattle.trace.specs.declared.Header.{Header}
 use Rattle.trace.proofs.Sound.{sound_trace, reqs_length}
 use Rattle.links.specs.Promise.{Filled}
 use Rattle.replay.specs.Replay.{Totals, totals_of, replay_tried, replay_of}
 use Rattle.replay.proofs.Laws.{replay_passes, flags_sound}
 use Rattle.replay.proofs.Answered.{filled_forward}
 use Rattle.lanes.specs.Lanes.{Drawn, row_in, place_at, chart_to, rows_of, Laned}
-use Rattle.lanes.specs.Steps.{Ready, Laying}
+use Rattle.lanes.specs.Steps.{Ready}
 use Rattle.lanes.proofs.Charts.{keeper_below, chart_shows, chart_each, chart_keeps, chart_row}
 
 -- ---- sound flags
@@ -69,7 +69,7 @@ rows_drawn tr x s few =
 -- ---- the call
 
 -- where no row holds: the lists are ready for the rows
-pub lists_ready : {tr flags old on op nexts prevs : List ℕ} {r : Checked} {s : Totals} → fine s ≡ replay_of tr flags → Filled tr on op r nexts prevs
+pub lists_ready : {tr flags old on op nexts prevs : List ℕ} {r : Result Header Refusal} {s : Totals} → fine s ≡ replay_of tr flags → Filled tr on op r nexts prevs
     → length old ≡ max_requests → Ready tr flags prevs old
 lists_ready {tr} {flags} {old} {s = s} e f n =
     let p = replay_passes tr flags (answer_fine (replay_tried tr flags) (totals_of (trace_in tr) flags) s e).0 in
@@ -79,25 +79,21 @@ lists_ready {tr} {flags} {old} {s = s} e f n =
       long = omega (arith, p.count, (sound_trace tr p.trace).requests);
     }
 
-pub laned_refused : (tr flags old : List ℕ) (r : Refusal) → refused r.number r.place ≡ replay_of tr flags → Laned tr flags old (Refused r) old
-laned_refused tr flags old r e =
-    let k = answer_refused (replay_tried tr flags) (totals_of (trace_in tr) flags) r.number r.place e in
-    record { answer = sym k; laid_out = rw k }
+-- a trace whose replay passes is not refused
+pub replay_sound : (tr flags : List ℕ) (s : Totals) (r : Refusal) → fine s ≡ replay_of tr flags → refused (number_of r) (place_of r) ≡ check_of tr → ⊥
+replay_sound tr flags s r e f =
+    let p = replay_passes tr flags (answer_fine (replay_tried tr flags) (totals_of (trace_in tr) flags) s e).0 in
+    let q = answer_refused (trace_tried tr) (header_in tr) (number_of r) (place_of r) f in
+    let z : passes ≡ refusal (number_of r) (place_of r) = sym p.trace ∙ q in
+    let one : ◌≡◌ {A = ℕ} 0 1 = cc in
+    omega arith
 
 -- as many rows as requests
 rows_count : (tr flags : List ℕ) → length (rows_of (trace_in tr) (flags_in flags)) ≡ requests_at tr
 rows_count tr flags = rows_each (trace_in tr) (flags_in flags) ∙ reqs_length tr
 
-pub laned_sound : {tr flags old rows : List ℕ} (s : Totals) → fine s ≡ replay_of tr flags → Laying tr flags old rows → Laned tr flags old Sound rows
-laned_sound {tr} {flags} {old} s e h =
-    let k = (answer_fine (replay_tried tr flags) (totals_of (trace_in tr) flags) s e).0 in
-    record {
-      answer = sym k;
-      laid_out = rw k (h ∙ ap (λ (n : ℕ). rows_of (trace_in tr) (flags_in flags) ++ drop n old) (sym (rows_count tr flags)));
-    }
-
--- where the call answers Sound, the first n of the lent list are a chart: no row shows two items in one gap
-pub lanes_drawn : {trace flags old rows : List ℕ} {r : Outcome} → Laned trace flags old r rows → r ≡ Sound
+-- where the call answers Ok, the first n of the lent list are a chart: no row shows two items in one gap
+pub lanes_drawn : {trace flags old rows : List ℕ} {r : Result Unit Refusal} → Laned trace flags old r rows → r ≡ Ok tt
     → Drawn (trace_in trace) (flags_in flags) (take (requests_at trace) rows)
 lanes_drawn {trace} {flags} {old} {rows} {r} a e =
     let k : replay_tried trace flags ≡ passes = sym a.answer ∙ ap said e in
@@ -110,17 +106,8 @@ lanes_drawn {trace} {flags} {old} {rows} {r} a e =
 
 -- ---- one outcome
 
-outcome_unique : (a b : Outcome) (x : Tried) → said a ≡ x → said b ≡ x → a ≡ b
-outcome_unique Sound Sound x p q = refl
-outcome_unique Sound (Refused r) x p q = absurd (let z : ◌≡◌ {A = ℕ} 0 1 = cc in omega arith)
-outcome_unique (Refused r) Sound x p q = absurd (let z : ◌≡◌ {A = ℕ} 0 1 = cc in omega arith)
-outcome_unique (Refused r) (Refused s) x p q =
-    let n : r.number ≡ s.number = cc in
-    let m : r.place ≡ s.place = cc in
-    λ i. Refused (record { number = n i; place = m i })
-
 -- any two answers and lent lists that the promise permits coincide
-pub lanes_unique : {trace flags old : List ℕ} {r s : Outcome} {rows₁ rows₂ : List ℕ} → Laned trace flags old r rows₁ → Laned trace flags old s rows₂
+pub lanes_unique : {trace flags old : List ℕ} {r s : Result Unit Refusal} {rows₁ rows₂ : List ℕ} → Laned trace flags old r rows₁ → Laned trace flags old s rows₂
     → (r ≡ s) × (rows₁ ≡ rows₂)
 lanes_unique {trace} {flags} {old} {r} {s} a b =
-    (outcome_unique r s (replay_tried trace flags) a.answer b.answer, a.laid_out ∙ sym b.laid_out)
+    (said_unique r s (replay_tried trace flags) a.answer b.answer, a.laid_out ∙ sym b.laid_out)

@@ -1,12 +1,12 @@
 -- The slot row in which each keep of a plan is drawn, in a chart with time from left to right and one row a slot.
 -- Requests and rows are counted from 0. Assumes nothing.
-use Rattle.std.specs.Prelude.{◌≡◌, ℕ, zero, suc, ◌≤◌, ◌<◌, Bool, true, cond, List, [], ◌∷◌, ◌++◌, length, get_or, set, replicate, eqb}
+use Rattle.std.specs.Prelude.{◌≡◌, ℕ, zero, suc, ◌≤◌, ◌<◌, Bool, true, cond, List, [], ◌∷◌, ◌++◌, length, get_or, set, replicate, eqb, Result}
 use Rattle.model.specs.Numbers.{max_slots}
 use Rattle.model.specs.Model.{Request, Trace}
 use Rattle.model.specs.Plans.{Flags, flags_in, request_at, contents}
 use Rattle.model.specs.Links.{prev_to, prev_of}
 use Rattle.model.specs.Refusals.{said}
-use Rattle.model.specs.declared.Outcome.{Outcome}
+use Rattle.model.specs.declared.Refusal.{Refusal}
 use Rattle.trace.specs.TraceFile.{trace_in}
 use Rattle.links.specs.Linked.{laid}
 use Rattle.replay.specs.Replay.{replay_tried}
@@ -68,6 +68,6 @@ abbrev pub rows_in : (trace flags old : List ℕ) → List ℕ
 rows_in tr flags old = laid (replay_tried tr flags) (rows_of (trace_in tr) (flags_in flags)) old
 
 -- what `lanes` promises: the answer, by rows 1 to 8, 11 and 13 to 15, and what the lent list then holds
-pub record Laned (trace flags old : List ℕ) (r : Outcome) (rows : List ℕ) : Type 0 where
+pub record Laned (trace flags old : List ℕ) (r : Result Unit Refusal) (rows : List ℕ) : Type 0 where
   pub answer : said r ≡ replay_tried trace flags
   pub laid_out : rows ≡ rows_in trace flags old

@@ -4,22 +4,24 @@
 
 ghost use Rattle.lanes.specs.Lanes.{Laned};
 
-use model::{Outcome, Requests};
-use replay::Replayed;
+use links::Links;
+use model::{Refusal, Requests};
+use replay::kept::Kept;
 
 mod rows;
 
 // The row of each request of a trace in the first n places, the rest kept; or the first of refusals 1 to 8, 11 and 13 to 15
 // that holds, and all kept.
-pub fn lanes(trace: &[u8], flags: &[u8], rows: &mut [u8; Requests::MAX]) -> Outcome
+pub fn lanes(trace: &[u8], flags: &[u8], rows: &mut [u8; Requests::MAX]) -> Result<(), Refusal>
     ensures { Laned trace.now flags.now rows.old result rows.new }
 {
-    if let Replayed::Refused(r) = replay::replay(trace, flags) {
-        return Outcome::Refused(r);
-    }
-    let mut next = [0u16; Requests::MAX];
-    let mut prev = [0u16; Requests::MAX];
-    links::fill(trace, &mut next, &mut prev);
-    rows::draw(trace, flags, &prev, rows);
-    Outcome::Sound
+    replay::replay(trace, flags)?;
+    let mut links = Links::new();
+    links.fill(trace)?;
+    let kept = Kept {
+        flags,
+        links: &links,
+    };
+    rows::draw(trace, &kept, rows);
+    Ok(())
 }

@@ -4,14 +4,13 @@ use Prim.Native.Nat.{ℕ}
 use mathlib.Core.List.{List}
 use native.Mathlib.Omega.{arith}
 use lib.ListN.{replicate}
-use Rattle.model.specs.Refusals.{Tried, passes, refusal}
+use Rattle.std.specs.Prelude.{Result, Ok, Err}
+use Rattle.model.specs.Refusals.{Tried, passes, refusal, number_of, place_of}
 use Rattle.model.specs.declared.Refusal.{Refusal}
 use Rattle.model.proofs.Refusals.{answer_fine, answer_refused}
 use Rattle.trace.specs.TraceFile.{requests_at, trace_tried}
 use Rattle.trace.specs.Answers.{check_of, header_in}
 use Rattle.trace.specs.declared.Header.{Header}
-use Rattle.trace.specs.declared.Checked.{Checked}
-use Rattle.trace.specs.declared.Checked.TheVariants.{Sound, Refused}
 use Rattle.trace.proofs.Sound.{check_unique}
 use Rattle.links.specs.Promise.{Filled}
 use Rattle.ways.specs.Promise.{Sourced, Charged}
@@ -25,10 +24,10 @@ parted : {t : Tried} {number place : ℕ} → t ≡ passes → t ≡ refusal num
 parted {t} {number} {place} a b = let e : passes ≡ refusal number place = sym a ∙ b in let z : ◌≡◌ {A = ℕ} 0 1 = cc in omega arith
 
 -- a trace that is refused
-pub begun_refused : {trace next prev next' prev' : List ℕ} (from charges worth : List ℕ) (r : Refusal) → Filled trace next prev (Refused r) next' prev'
-    → Opened trace from charges worth (Refused r) from charges worth
+pub begun_refused : {trace next prev next' prev' : List ℕ} (from charges worth : List ℕ) (r : Refusal) → Filled trace next prev (Err r) next' prev'
+    → Opened trace from charges worth (Err r) from charges worth
 begun_refused {trace} from charges worth r f =
-    let k = answer_refused (trace_tried trace) (header_in trace) r.number r.place f.answer in
+    let k = answer_refused (trace_tried trace) (header_in trace) (number_of r) (place_of r) f.answer in
     record {
       answer = f.answer;
       sound = λ e. absurd (parted e k);
@@ -37,8 +36,8 @@ begun_refused {trace} from charges worth r f =
 
 -- a sound one
 pub begun_sound : {trace next prev from charges worth from' charges' worth' : List ℕ} (h : Header)
-    → Filled trace (replicate 1024 0) (replicate 1024 0) (Sound h) next prev → Sourced h.requests next prev from from'
-    → Charged trace charges charges' → Started trace next worth worth' → Opened trace from charges worth (Sound h) from' charges' worth'
+    → Filled trace (replicate 1024 0) (replicate 1024 0) (Ok h) next prev → Sourced h.requests next prev from from'
+    → Charged trace charges charges' → Started trace next worth worth' → Opened trace from charges worth (Ok h) from' charges' worth'
 begun_sound {trace} {next} {prev} {from} {charges} {worth} {from'} {charges'} {worth'} h f s c w =
     let k = answer_fine (trace_tried trace) (header_in trace) h f.answer in
     let n : h.requests ≡ requests_at trace = ap (λ (y : Header). y.requests) k.1 in
@@ -54,7 +53,7 @@ begun_sound {trace} {next} {prev} {from} {charges} {worth} {from'} {charges'} {w
 
 -- ---- any two answers that the promise permits coincide
 
-module _ {trace from charges worth : List ℕ} {r r' : Checked} {f c w f' c' w' : List ℕ} (a : Opened trace from charges worth r f c w) (b : Opened trace from charges worth r' f' c' w') where
+module _ {trace from charges worth : List ℕ} {r r' : Result Header Refusal} {f c w f' c' w' : List ℕ} (a : Opened trace from charges worth r f c w) (b : Opened trace from charges worth r' f' c' w') where
   lists_unique : (t : Tried) → trace_tried trace ≡ t → (f ≡ f') × (c ≡ c') × (w ≡ w')
   lists_unique passes e =
       let p = a.sound e in

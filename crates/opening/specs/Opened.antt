@@ -1,9 +1,10 @@
--- What `open` promises: the answer, and what the three lent lists then hold. Assumes nothing.
-use Rattle.std.specs.Prelude.{◌≡◌, ℕ, List, replicate}
-use Rattle.model.specs.Refusals.{passes, refusal}
+-- What `begin` promises: the answer, and what the three lent lists then hold. Assumes nothing.
+use Rattle.std.specs.Prelude.{◌≡◌, ℕ, List, Result, replicate}
+use Rattle.model.specs.Refusals.{passes, refusal, answered}
+use Rattle.model.specs.declared.Refusal.{Refusal}
 use Rattle.trace.specs.TraceFile.{requests_at, trace_tried}
-use Rattle.trace.specs.Answers.{said, check_of}
-use Rattle.trace.specs.declared.Checked.{Checked}
+use Rattle.trace.specs.Answers.{check_of}
+use Rattle.trace.specs.declared.Header.{Header}
 use Rattle.links.specs.Linked.{nexts_in, prevs_in}
 use Rattle.ways.specs.Promise.{Sourced, Charged}
 use Rattle.worths.specs.Worths.{Started}
@@ -23,7 +24,7 @@ pub record Lists (trace from charges worth from' charges' worth' : List ℕ) : T
   pub started : Started trace (nexts_of trace) worth worth'
 
 -- of a trace and the lists as they came in, the answer and the lists as they go out
-pub record Opened (trace from charges worth : List ℕ) (r : Checked) (from' charges' worth' : List ℕ) : Type 0 where
-  pub answer : said r ≡ check_of trace
+pub record Opened (trace from charges worth : List ℕ) (r : Result Header Refusal) (from' charges' worth' : List ℕ) : Type 0 where
+  pub answer : answered r ≡ check_of trace
   pub sound : trace_tried trace ≡ passes → Lists trace from charges worth from' charges' worth'
   pub refused : (number place : ℕ) → trace_tried trace ≡ refusal number place → (from' ≡ from) × (charges' ≡ charges) × (worth' ≡ worth)

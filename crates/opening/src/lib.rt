@@ -3,29 +3,24 @@
 
 ghost use Rattle.opening.specs.Opened.{Opened};
 
-use model::Requests;
-use trace::Checked;
-use ways::{charges, sources};
-use worths::start;
+use links::Links;
+use model::Refusal;
+use trace::Header;
 
-// Of a sound trace the three lists are filled; of any other all is kept. The lists of next and previous requests are needed no longer
-// than this call, so they stand here.
+// Of a sound trace the three lists are filled; of any other all is kept. The next and previous requests are needed no longer than
+// this call, so they stand here.
 pub fn begin(
     trace: &[u8],
     from: &mut [u16; 6150],
     charge: &mut [u32; 1024],
     worth: &mut [u32; 2050],
-) -> Checked
+) -> Result<Header, Refusal>
     ensures { Opened trace.now from.old charge.old worth.old result from.new charge.new worth.new }
 {
-    let mut next = [0u16; Requests::MAX];
-    let mut prev = [0u16; Requests::MAX];
-    let checked = links::fill(trace, &mut next, &mut prev);
-    let Checked::Sound(h) = checked else {
-        return checked;
-    };
-    sources(&next, &prev, h.requests, from);
-    charges(trace, charge);
-    start(trace, &next, worth);
-    checked
+    let mut links = Links::new();
+    let header = links.fill(trace)?;
+    ways::sources(&links.next, &links.prev, header.requests, from);
+    ways::charges(trace, charge);
+    worths::start(trace, &links.next, worth);
+    Ok(header)
 }

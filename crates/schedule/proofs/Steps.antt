@@ -1,5 +1,5 @@
 -- What is read and counted is what happens at a request, by the model.
-use mathlib.Core.Path.{◌≡◌, refl, sym, ◌∙◌, ap}
+use mathlib.Core.Path.{◌≡◌, sym, ◌∙◌, ap}
 use Prim.Native.Nat.{ℕ, suc, ◌+◌, ◌≤◌, ◌<◌}
 use native.Mathlib.Omega.{arith}
 use mathlib.Core.Bool.{Bool}
@@ -9,11 +9,13 @@ use lib.Dec.{eqb}
 use borrow.Author.Tests.{lt-ltb, le-ltb}
 use Rattle.model.specs.Model.{charge}
 use Rattle.model.specs.Plans.{request_at, rents_in}
-use Rattle.model.specs.Refusals.{passes, Answer, fine, refused}
-use Rattle.model.proofs.Refusals.{answer_fine, answer_refused}
+use Rattle.std.specs.Prelude.{Option, Some, None, Result}
+use Rattle.model.specs.Refusals.{passes, Answer, fine, refused, answered}
+use Rattle.model.specs.declared.Refusal.{Refusal}
+use Rattle.model.proofs.Refusals.{answer_fine, answer_refused, answered_unique}
 use Rattle.model.proofs.Links.{get_d_listed}
 use Rattle.trace.specs.TraceFile.{slots_at, requests_at, fill_at, item_at, kind_at, cost_at, rules_in, request_in, trace_in}
-use Rattle.trace.specs.declared.Checked.{Checked}
+use Rattle.trace.specs.declared.Header.{Header}
 use Rattle.trace.proofs.Sound.{req_at}
 use Rattle.links.specs.Promise.{Filled}
 use Rattle.plan.specs.PlanFile.{shape_of, rents_part, rent_in, section_tried, flags_of, rents_of}
@@ -27,9 +29,8 @@ use Rattle.replay.proofs.Answered.{filled_forward}
 use Rattle.audit.specs.Audit.{plan_flags, plan_rents, audit_tried, audit_of}
 use Rattle.audit.proofs.Laws.{audit_passes}
 use Rattle.audit.proofs.Parts.{section_trace, flags_count}
-use Rattle.schedule.specs.Schedule.{bit_of, word_of, step_with, step_by, step_of, Here, at, past, stepped_of, said}
-use Rattle.schedule.specs.declared.Stepped.{Stepped}
-use Rattle.schedule.specs.declared.Stepped.TheVariants.{At, Past, Refused}
+use Rattle.schedule.specs.Schedule.{step_with, step_by, step_of, stepped_of}
+use Rattle.schedule.specs.declared.Step.{Step}
 use Rattle.schedule.specs.Counted.{Audited, Linked}
 use Rattle.schedule.proofs.Counting.{holds}
 
@@ -57,41 +58,39 @@ module _ {tr flags prevs : List ℕ} {t : ℕ} (l : Linked tr flags prevs t) (re
       ∙ ap (λ a. step_with (rules_in tr) R (S t R.item) a t n rent) (sym (held_after tr flags t)))
 
   -- and by what was read of them
-  pub step_is : {kind cost fill item slots within : ℕ} {before after : Bool} {row : Row} {total bw bb ba word : ℕ}
-      → kind ≡ kind_at tr t → cost ≡ cost_at tr t → fill ≡ fill_at tr → item ≡ item_at tr t → slots ≡ slots_at tr
+  pub step_is : {cost fill item slots within : ℕ} {write before after : Bool} {row : Row} {total : ℕ}
+      → write ≡ eqb (kind_at tr t) 1 → cost ≡ cost_at tr t → fill ≡ fill_at tr → item ≡ item_at tr t → slots ≡ slots_at tr
       → within ≡ holds tr flags (suc t) → before ≡ held_by flags prevs t → after ≡ flag_at flags t
-      → row ≡ row_of (eqb kind 1) before after → total ≡ (paid_in row cost fill).total → word ≡ word_of row
-      → bw ≡ bit_of (eqb kind 1) → bb ≡ bit_of before → ba ≡ bit_of after
+      → row ≡ row_of write before after → total ≡ (paid_in row cost fill).total
       → record {
         no = t + 1;
-        write = bw;
+        write = write;
         item = item;
         cost = cost;
-        before = bb;
-        after = ba;
+        before = before;
+        after = after;
         charge = total;
-        word = word;
+        row = row;
         within = within;
         slots = slots;
         rent = rent;
       } ≡ step_by (trace_in tr) flags t rent
-  step_is {kind} {cost} {fill} {item} {slots} {within} {before} {after} {row} ek ec ef ei es ew eb ea er et eo hw hb ha =
-      let ch = charge_is slots fill item cost _ (eqb kind 1) before after row er et in
-      let wd = eo ∙ ap word_of er in
+  step_is {cost} {fill} {item} {slots} {within} {write} {before} {after} {row} ek ec ef ei es ew eb ea er et =
+      let ch = charge_is slots fill item cost _ write before after row er et in
       (λ i. record {
         no = t + 1;
-        write = hw i;
+        write = write;
         item = item;
         cost = cost;
-        before = hb i;
-        after = ha i;
+        before = before;
+        after = after;
         charge = ch i;
-        word = wd i;
+        row = er i;
         within = within;
         slots = slots;
         rent = rent;
       })
-      ∙ ((λ i. step_with (record { slots = es i; fill = ef i }) (record { write = eqb (ek i) 1; item = ei i; cost = ec i })
+      ∙ ((λ i. step_with (record { slots = es i; fill = ef i }) (record { write = ek i; item = ei i; cost = ec i })
       (eb i) (ea i) t (ew i) rent)
       ∙ step_read)
 
@@ -102,7 +101,7 @@ module _ (tr pl : List ℕ) (t : ℕ) (a : Audited tr pl t) where
   section = (audit_passes tr pl a.passed).section
 
   -- its flags and the lists that are filled
-  pub plan_linked : {old-next old-prev nexts prevs flags : List ℕ} {r : Checked} → Filled tr old-next old-prev r nexts prevs
+  pub plan_linked : {old-next old-prev nexts prevs flags : List ℕ} {r : Result Header Refusal} → Filled tr old-next old-prev r nexts prevs
       → flags ≡ flags_of tr pl → Linked tr flags prevs t
   plan_linked {old-next} {old-prev} {nexts} {prevs} {flags} f e =
       let p : flags ≡ plan_flags tr pl = e ∙ rw section in
@@ -126,34 +125,23 @@ module _ (tr pl : List ℕ) (t : ℕ) (a : Audited tr pl t) where
 
 -- ---- the answer
 
-module _ (tr pl : List ℕ) (t : ℕ) where
-  -- an audit that is answered with totals passed
-  pub audit_sound : (s : Totals) → fine s ≡ audit_of tr pl → audit_tried tr pl ≡ passes
-  audit_sound s e = (answer_fine (audit_tried tr pl) (totals_of (trace_in tr) (plan_flags tr pl)) s e).0
+-- an audit that is answered with totals passed
+pub audit_sound : (tr pl : List ℕ) (s : Totals) → fine s ≡ audit_of tr pl → audit_tried tr pl ≡ passes
+audit_sound tr pl s e = (answer_fine (audit_tried tr pl) (totals_of (trace_in tr) (plan_flags tr pl)) s e).0
 
+module _ (tr pl : List ℕ) (t : ℕ) where
   pub stepped_off : (n p : ℕ) → refused n p ≡ audit_of tr pl → refused n p ≡ stepped_of tr pl t
   stepped_off n p e = rw (answer_refused (audit_tried tr pl) (totals_of (trace_in tr) (plan_flags tr pl)) n p e)
 
   module _ (e : audit_tried tr pl ≡ passes) where
-    pub stepped-at : t < requests_at tr → fine (at (step_of tr pl t)) ≡ stepped_of tr pl t
+    pub stepped-at : t < requests_at tr → fine (Some (step_of tr pl t)) ≡ stepped_of tr pl t
     stepped-at h = rw (e, lt-ltb t (requests_at tr) h)
 
-    pub stepped-past : requests_at tr ≤ t → fine past ≡ stepped_of tr pl t
+    pub stepped-past : requests_at tr ≤ t → fine None ≡ stepped_of tr pl t
     stepped-past h = rw (e, le-ltb t (requests_at tr) h)
 
 -- ---- one answer
 
 -- any two permitted answers coincide
-pub step_once : (a b : Stepped) (x : Answer Here) → said a ≡ x → said b ≡ x → a ≡ b
-step_once (At s) (At u) x p q = let e : s ≡ u = cc in ap At e
-step_once (At s) Past x p q = absurd (let z : ◌≡◌ {A = ℕ} 0 1 = cc in omega arith)
-step_once (At s) (Refused r) x p q = absurd (let z : ◌≡◌ {A = ℕ} 0 1 = cc in omega arith)
-step_once Past (At u) x p q = absurd (let z : ◌≡◌ {A = ℕ} 0 1 = cc in omega arith)
-step_once Past Past x p q = refl
-step_once Past (Refused r) x p q = absurd (let z : ◌≡◌ {A = ℕ} 0 1 = cc in omega arith)
-step_once (Refused r) (At u) x p q = absurd (let z : ◌≡◌ {A = ℕ} 0 1 = cc in omega arith)
-step_once (Refused r) Past x p q = absurd (let z : ◌≡◌ {A = ℕ} 0 1 = cc in omega arith)
-step_once (Refused r) (Refused s) x p q =
-    let n : r.number ≡ s.number = cc in
-    let m : r.place ≡ s.place = cc in
-    λ i. Refused (record { number = n i; place = m i })
+pub step_once : (a b : Result (Option Step) Refusal) (x : Answer (Option Step)) → answered a ≡ x → answered b ≡ x → a ≡ b
+step_once = answered_unique

@@ -12,9 +12,7 @@ pub fn lift(worth: &mut [u32], v: usize, dist: u32, d: u64)
 {
     let at = u64::from(dist);
     if at < d {
-        worth[v] = u64::from(worth[v])
-            .saturating_add(d - at)
-            .min(u64::from(MAX)) as u32;
+        worth[v] = worth[v].saturating_add((d - at).min(u64::from(MAX)) as u32);
     }
 }
 

@@ -8,8 +8,8 @@ use Rattle.trace.proofs.Sound.{sound_trace}
 use Rattle.audit.proofs.Parts.{section_trace, rents_lent}
 use Rattle.audit.proofs.rents.Goals as goal
 
-pub returns : goal.returns
-returns c = λ h.
+pub returns-clause-sound : goal.returns-clause-sound
+returns-clause-sound c = λ h.
     let few = (sound_trace c.args.trace.now (section_trace c.args.trace.now c.args.plan.now h)).requests in
     let room : length c.args.room.now ≡ max_requests = search rules in
     let n : c.min.result ≡ requests_at c.args.trace.now = omega arith in

@@ -23,7 +23,7 @@ audited c =
 
 -- and the rents that are lent are the plan's
 lent : (c : After-rents) → audit_tried c.args.trace.now c.args.plan.now ≡ passes → c.rents.result.now ≡ plan_rents c.args.trace.now c.args.plan.now
-lent c a = c.rents.ensures (audit_sound _ _ a).section
+lent c a = c.rents.ensures.sound (audit_sound _ _ a).section
 
 pub returns-in_err-totals : goal.returns-in_err-totals
 unfolding judge_tried

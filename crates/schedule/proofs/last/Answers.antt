@@ -4,6 +4,5 @@ use Rattle.sentences.proofs.Answering.{fine_page}
 use Rattle.schedule.specs.Schedule.{totals_line}
 use Rattle.schedule.proofs.last.Goals as goal
 
-pub returns-in-Sound : goal.returns-in-Sound
-returns-in-Sound c =
-    fine_page _ totals_line c.in-Sound.ensures (laid_whole refl c.lay.ensures)
+pub returns-in-Ok : goal.returns-in-Ok
+returns-in-Ok c = fine_page _ totals_line c.in-Ok.ensures (laid_whole refl c.lay.ensures)

@@ -1,11 +1,6 @@
 -- `draw` meets its contract: the lists are the chart of the requests passed. Assumes nothing.
-use Prim.Native.Nat.{◌-◌}
-use lib.ListN.{length}
 use Rattle.lanes.proofs.Drawing.{Drawing}
 use Rattle.lanes.proofs.rows.draw.Given as goal
 
 abbrev pub invariant-loop-t : goal.invariant-loop-t
-invariant-loop-t l = Drawing l.trace l.flags l.initial.rows l.busy l.rows l.t
-
-abbrev pub decreases-loop-t : goal.decreases-loop-t
-decreases-loop-t l = length l.flags - l.t
+invariant-loop-t l = Drawing l.trace l.kept.flags.now l.initial.rows l.busy l.rows l.t

@@ -6,7 +6,7 @@ use Rattle.schedule.proofs.numbers.of_flags.Goals as goal
 pub returns : goal.returns
 returns c =
     step_is c.requires c.args.rent
-    c.kind-write.ensures.0
+    c.is_write-write.ensures
     c.cost-cost.ensures.0
     c.fill.ensures.0
     c.item.ensures.0
@@ -16,7 +16,3 @@ returns c =
     c.flag-after.ensures
     c.row_of-row.ensures
     (ap (λ (q : Totals). q.total) c.paid_of-paid.ensures)
-    c.word.ensures
-    c.bit.ensures.0
-    c.bit-2.ensures.0
-    c.bit-3.ensures.0

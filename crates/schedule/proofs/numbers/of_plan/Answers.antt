@@ -8,5 +8,5 @@ of_flags-requires c =
 
 pub returns : goal.returns
 returns c =
-    let rent = plan_rent c.args.trace.now c.args.plan.now c.args.t c.requires c.rents.ensures c.rent-rent.ensures.0 in
+    let rent = plan_rent c.args.trace.now c.args.plan.now c.args.t c.requires c.rents.ensures c.rent.ensures.0 in
     c.of_flags.ensures ∙ step_of_plan c.args.trace.now c.args.plan.now c.args.t c.requires c.flags.ensures rent

@@ -3,18 +3,15 @@ use Rattle.schedule.proofs.Counting.{counting_begins, counting_less, counting_on
 use Rattle.schedule.proofs.numbers.within.Goals as goal
 
 pub loop-s-init : goal.loop-s-init
-loop-s-init c = counting_begins _ _ _
+loop-s-init c = counting_begins _ _
 
 pub overflow_sub-count : goal.overflow_sub-count
 overflow_sub-count c =
-    counting_less c.requires c.loop-s.invariant (omega arith)
-    c.bit.ensures.0 c.flag.ensures c.bit-in-loop-s.ensures.0 c.held.ensures
+    counting_less c.requires c.loop-s.invariant (omega arith) c.from.ensures c.flag.ensures c.from-in-loop-s.ensures c.held.ensures
 
 pub loop-s-preserved : goal.loop-s-preserved
 loop-s-preserved c =
-    counting_on c.requires c.loop-s.invariant (omega arith)
-    c.bit.ensures.0 c.flag.ensures c.bit-in-loop-s.ensures.0 c.held.ensures
-    c.bit.ensures.1
+    counting_on c.requires c.loop-s.invariant (omega arith) c.from.ensures c.flag.ensures c.from-in-loop-s.ensures c.held.ensures
 
 pub returns : goal.returns
-returns c = counting_ends c.loop-s.invariant c.loop-s-test.false
+returns c = counting_ends c.loop-s.invariant (omega arith)
