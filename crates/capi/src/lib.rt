@@ -15,7 +15,7 @@ ghost use Rattle.capi.specs.Codes.{Codable, Coded, Solves, code_of_tried, code_o
 use model::Refusal;
 use ratio::Gap;
 
-// The code of a refusal.
+// The code of a refusal: the C interface has one number for it.
 fn code(r: Refusal) -> u64
     requires { Codable (number_of r) (place_of r) }
     ensures { result ≡ number_of r + 256 * place_of r }
@@ -38,7 +38,7 @@ fn coded<T: Copy>(answer: Result<T, Refusal>, out: &mut T) -> u64
     }
 }
 
-// Total cost, read misses, fills and write hits of a plan. Refusals 1 to 17.
+// Total cost, read misses, fills and write hits of a plan, in a list as the C interface has them. Refusals 1 to 17.
 pub fn gp_audit(trace: &[u8], plan: &[u8], totals: &mut [u64; 4]) -> u64
     ensures value { result ≡ code_of (audit_of trace.now plan.now) }
     ensures totals_after { totals.new ≡ totals_or (audit_of trace.now plan.now) totals.old }
@@ -94,7 +94,8 @@ pub fn gp_section(trace: &[u8], plan: &[u8]) -> u64
     }
 }
 
-// The measured cost by the least: the kind is 0 for no cost, 1 for no ratio, 2 for a ratio. Refusals 20, 21.
+// The measured cost by the least: the kind is 0 for no cost, 1 for no ratio, 2 for a ratio, as the C interface numbers them. Refusals
+// 20, 21.
 pub fn gp_ratio(least: u64, measured: u64, kind: &mut u8, ratio: &mut f64) -> u64
     ensures value { result ≡ code_of (ratio_of least measured) }
     ensures kind_after { kind.new ≡ kind_or (ratio_of least measured) kind.old }
