@@ -20,6 +20,7 @@ pub fn solve(trace: &[u8], buffer: &mut [u8]) -> Result<u64, Refusal>
 {
     let mut from = [1u16; 6150];
     let mut charges = [1u32; 1024];
+    // Worths of 0 are made where they stand; others would be made beside the struct first, and the stack is short.
     let mut slots = Slots {
         worth: [0; 2050],
         flags: [0; 1024],
