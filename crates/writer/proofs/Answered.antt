@@ -7,7 +7,7 @@ use mathlib.Core.List.{List, ◌++◌}
 use lib.ListN.{length, drop}
 use lib.Seq.{sets, sets-eq}
 use lib.Dec.{eqb, ltb}
-use borrow.Author.Tests.{eq-eqb, ne_eqb, eqb-true, lt-ltb, le-ltb, ltb-false, not-false}
+use borrow.Author.Tests.{eq-eqb, ne_eqb, eqb-true, le-ltb, ltb-false, not-false}
 use Rattle.model.specs.Refusals.{Tried, passes, refusal, row, next, fine, refused}
 use Rattle.model.proofs.Refusals.{row_passes, next_passes, answer_fine, answer_refused}
 use Rattle.trace.specs.TraceFile.{requests_at, trace_tried, trace_in}
