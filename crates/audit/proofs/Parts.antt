@@ -14,7 +14,6 @@ use Rattle.trace.proofs.Sound.{sound_trace}
 use Rattle.plan.specs.PlanFile.{shape_of, rents_part, rent_in, plan_tried, section_tried, flags_of, rents_of}
 use Rattle.plan.specs.Reading.{rents_into}
 use Rattle.plan.proofs.Sections.{section_sound}
-use Rattle.plan.proofs.Reading.{length-put}
 use Rattle.audit.specs.Audit.{plan_flags, plan_rents}
 
 -- of rows 1 to 12 that pass, 1 to 8 do
@@ -50,17 +49,9 @@ pub rents_read : (tr pl out : List ℕ) → section_tried tr pl ≡ passes → r
 rents_read tr pl out h l =
     rw h (rw (rents_long tr pl h) (take_put (rent_in (rents_part (shape_of (requests_at tr)) pl)) (requests_at tr) 0 out l))
 
--- there is room for them in a list of as many places as a trace can have requests
+-- so are those that are read into a list of as many places as a trace can have requests
 module _ (tr pl out part last : List ℕ) (n : ℕ) (h : section_tried tr pl ≡ passes) (count : n ≡ requests_at tr)
     (read : last ≡ rents_into part out) (room : max_requests ≤ length out) where
-  pub rents_room : n ≤ length last
-  rents_room =
-      let few = (sound_trace tr (section_trace tr pl h)).requests in
-      omega (arith, ap length read, length-put (listed (rent_in part) (length part / 4) 0) out)
-
-  pub rents_whole : n ≡ length (take n last)
-  rents_whole = simp length-take (omega (arith, rents_room))
-
   pub rents_lent : part ≡ rents_of tr pl → take n last ≡ plan_rents tr pl
   rents_lent e =
       let few = (sound_trace tr (section_trace tr pl h)).requests in

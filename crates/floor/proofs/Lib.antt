@@ -3,4 +3,3 @@ pub mod Backward
 pub mod Lists
 pub mod Passed
 pub mod Answers
-pub mod Signed

@@ -6,7 +6,7 @@ use native.Mathlib.Omega.{arith}
 use mir.Val.{bool_byte}
 use mathlib.Core.Bool.{Bool, true, false, cond}
 use mathlib.Core.List.{List}
-use lib.ListN.{length, get_or, drop, drop_of_length-le}
+use lib.ListN.{length, drop, drop_of_length-le}
 use lib.Seq.{drop-cons}
 use borrow.Author.Tests.{lt-ltb, le-ltb}
 use Rattle.model.specs.Model.{Request, items}
@@ -34,18 +34,6 @@ as_number false a e = rw (← e)
 -- t flags are 0 or 1, and the others decide
 pub record ValuesLeft (flags : List ℕ) (t : ℕ) : Type 0 where
   pub rest : values_tried t (drop t flags) ≡ values_tried 0 flags
-
-module _ {flags : List ℕ} {t : ℕ} where
-  pub values_hit : ValuesLeft flags t → t < length flags → 1 < get_or flags t 0 → refusal 13 (t + 1) ≡ values_tried 0 flags
-  values_hit v l h = rw (add-one, ← v.rest, drop-cons flags t 0 l, lt-ltb 1 (get_or flags t 0) h)
-
-  pub values_on : ValuesLeft flags t → t < length flags → get_or flags t 0 ≤ 1 → ValuesLeft flags (t + 1)
-  values_on v l h =
-      let e = rw (drop-cons flags t 0 l, le-ltb 1 (get_or flags t 0) h) at v.rest in
-      record { rest = rw add-one e }
-
-  pub values_end : ValuesLeft flags t → length flags ≤ t → passes ≡ values_tried 0 flags
-  values_end v l = rw (← v.rest, drop_of_length-le flags {i = t} l)
 
 -- ---- row 14
 

@@ -1,4 +1,4 @@
--- Replay: definitions that a reader has to believe, and what the call answers.
+-- Replay: definitions that a reader has to believe, and what its steps look at.
 pub mod Replay
 pub mod Rows
 pub mod Linked

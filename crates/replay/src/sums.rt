@@ -29,6 +29,7 @@ impl Sound<'_, '_> {
     {
         let write = trace::is_write(self.trace, t);
         let row = row_of(write, self.kept.held(t), self.kept.flag(t));
+        // `paid_of` takes numbers of 32 bits, so that their sum fits; these two were read from four bytes.
         let cost = trace::cost(self.trace, t) as u32;
         let fill = trace::fill(self.trace) as u32;
         paid_of(row, cost, fill)

@@ -7,7 +7,7 @@ use mathlib.Core.List.{List, ◌++◌}
 use lib.ListN.{length, drop}
 use lib.Seq.{sets, sets-eq}
 use lib.Dec.{eqb, ltb}
-use borrow.Author.Tests.{eq-eqb, ne_eqb, eqb-true, lt-ltb, le-ltb, ltb-false, not-false}
+use borrow.Author.Tests.{eq-eqb, ne_eqb, eqb-true, le-ltb, ltb-false, not-false}
 use Rattle.model.specs.Refusals.{Tried, passes, refusal, row, next, fine, refused}
 use Rattle.model.proofs.Refusals.{row_passes, next_passes, answer_fine, answer_refused}
 use Rattle.trace.specs.TraceFile.{requests_at, trace_tried, trace_in}
@@ -82,14 +82,6 @@ module _ (tr : List ℕ) where
 
   pub list_off : (h : Header) → fine h ≡ check_of tr → refusal 11 0 ≡ next (trace_tried tr) (refusal 11 0)
   list_off h e = rw (check_passes tr h e)
-
--- rows 17 and 19 behind rents that pass
-module _ (rents : List ℕ) (room : ℕ) (low : passes ≡ rents_tried 0 rents) where
-  pub room_short : room ≤ 15 + 5 * length rents → refusal 19 0 ≡ next (rents_tried 0 rents) (buffer_tried (length rents) room)
-  room_short h = rw (← low, lt-ltb room (16 + length rents + 4 * length rents) (omega arith))
-
-  pub room_enough : 16 + 5 * length rents ≤ room → passes ≡ next (rents_tried 0 rents) (buffer_tried (length rents) room)
-  room_enough h = rw (← low, le-ltb room (16 + length rents + 4 * length rents) (omega arith))
 
 -- ---- the answer of a write
 

@@ -7,9 +7,11 @@ use mathlib.Core.List.{List, [], ◌++◌, append-nil}
 use lib.ListN.{length, take, drop, drop_of_length-le}
 use lib.Seq.{take_at, drop_at}
 use borrow.Author.Tests.{eq-eqb}
-use Rattle.model.proofs.Refusals.{next_passes, answer_fine}
+use Rattle.std.specs.Prelude.{Result, Ok}
+use Rattle.model.specs.declared.Refusal.{Refusal}
+use Rattle.model.proofs.Refusals.{next_passes, answer_fine, answered_unique}
 use Rattle.fields.proofs.Bytes.{AllBytes}
-use Rattle.model.specs.Refusals.{passes, Answer, fine}
+use Rattle.model.specs.Refusals.{passes, fine}
 use Rattle.model.proofs.Links.{length-listed}
 use Rattle.trace.specs.TraceFile.{requests_at, trace_tried}
 use Rattle.trace.proofs.Sound.{sound_trace}
@@ -22,10 +24,8 @@ use Rattle.replay.proofs.Laws.{totals_within}
 use Rattle.audit.specs.Audit.{plan_flags, plan_rents, plan_cost, audit_tried}
 use Rattle.audit.proofs.Parts.{flags_count}
 use Rattle.audit.proofs.Laws.{Audits, audit_passes}
-use Rattle.writer.specs.Write.{written_cost, write_tried, write_of, buffer_of, said}
+use Rattle.writer.specs.Write.{written_cost, write_tried, write_of, buffer_of}
 use Rattle.writer.specs.Promise.{Wrote}
-use Rattle.writer.specs.declared.Written.{Written}
-use Rattle.writer.specs.declared.Written.TheVariants.{Cost, Refused}
 use Rattle.writer.proofs.Answered.{Writes, write_passes, writes_pass}
 
 -- the plan that stands in a buffer for a trace: its first 16 + 5n bytes
@@ -98,7 +98,7 @@ module _ (tr flags rents buffer : List ℕ) (h : write_tried tr flags rents (len
       }
 
 -- the same of what the promise permits, at the cost that is answered
-module _ {tr flags rents buffer buffer' : List ℕ} {cost : ℕ} (w : Wrote tr flags rents buffer (Cost cost) buffer') where
+module _ {tr flags rents buffer buffer' : List ℕ} {cost : ℕ} (w : Wrote tr flags rents buffer (Ok cost) buffer') where
   pub answered_reads_back : ReadsBack tr flags rents cost (plan_in tr buffer')
   answered_reads_back =
       let a = answer_fine (write_tried tr flags rents (length buffer)) (written_cost tr flags) cost w.answer in
@@ -175,16 +175,8 @@ module _ (tr pl : List ℕ) (sound : audit_tried tr pl ≡ passes) where
 
 -- ---- one answer
 
-answer_unique : (a b : Written) (x : Answer ℕ) → said a ≡ x → said b ≡ x → a ≡ b
-answer_unique (Cost c) (Cost d) x p q = let e : c ≡ d = cc in ap Cost e
-answer_unique (Cost c) (Refused r) x p q = let z : ◌≡◌ {A = ℕ} 0 1 = cc in absurd (omega arith)
-answer_unique (Refused r) (Cost c) x p q = let z : ◌≡◌ {A = ℕ} 0 1 = cc in absurd (omega arith)
-answer_unique (Refused r) (Refused s) x p q =
-    let n : r.number ≡ s.number = cc in
-    let m : r.place ≡ s.place = cc in
-    λ i. Refused (record { number = n i; place = m i })
-
 -- what the promise permits is one answer and one buffer
-pub write_unique : (tr flags rents buffer : List ℕ) (a b : Written) (x y : List ℕ)
+pub write_unique : (tr flags rents buffer : List ℕ) (a b : Result ℕ Refusal) (x y : List ℕ)
     → Wrote tr flags rents buffer a x → Wrote tr flags rents buffer b y → (a ≡ b) × (x ≡ y)
-write_unique tr flags rents buffer a b x y p q = (answer_unique a b (write_of tr flags rents (length buffer)) p.answer q.answer, p.held ∙ sym q.held)
+write_unique tr flags rents buffer a b x y p q =
+    (answered_unique a b (write_of tr flags rents (length buffer)) p.answer q.answer, p.held ∙ sym q.held)

@@ -1,15 +1,17 @@
 -- Laws of bytes laid one run after the other. Assumes nothing.
-use mathlib.Core.Path.{◌≡◌, refl, ◌∙◌, ap}
-use Prim.Native.Nat.{ℕ, suc, ◌+◌, ◌*◌, ◌/◌, ◌%◌, ◌<◌}
-use native.Mathlib.Nat.{div-div-eq-div-mul, mod-mod}
+use mathlib.Core.Path.{◌≡◌, refl, sym, ◌∙◌}
+use Prim.Native.Nat.{ℕ, suc, ◌+◌, ◌*◌, ◌/◌, ◌≤◌, ◌<◌}
+use native.Mathlib.Nat.{div-div-eq-div-mul}
 use native.Mathlib.Omega.{arith}
 use mathlib.Core.List.{List, [], ◌∷◌, ◌++◌, append_assoc}
-use lib.ListN.{length, get_or, set, take, length-append}
-use lib.Seq.{sets, length-take-le, take-suc}
+use lib.ListN.{length, get_or, set, take, drop, length-append}
+use lib.Seq.{sets, sets-eq, drop-drop, length-take-le, take-suc}
+use borrow.Rule.Slice.PartMut.{put_mid}
+use mir.Syntax.{w32, w64}
+use Rattle.std.specs.Int.{to_le_bytes}
 use Rattle.fields.specs.Bytes.{bytes_of, bytes_of_all}
 use Rattle.fields.proofs.Bytes.{length-bytes, length-bytes_all}
 use Rattle.plan.specs.PlanFile.{plan_bytes}
-use Rattle.writer.specs.Laying.{mark_bytes}
 
 -- ---- one run after another
 
@@ -18,12 +20,9 @@ pub runs_join : (l : List ℕ) (i k : ℕ) (vs ws : List ℕ) → i + length vs 
 runs_join l i k [] ws h = let e : k ≡ i = omega arith in rw e
 runs_join l i k (a ∷ vs) ws h = runs_join (set l i a) (suc i) k vs ws (omega arith)
 
--- one flag more
-pub flag_more : (l flags : List ℕ) (at t : ℕ) → t < length flags
-    → set (sets l at (take t flags)) (at + t) (get_or flags t 0) ≡ sets l at (take (suc t) flags)
-flag_more l flags at t h =
-    runs_join l at (at + t) (take t flags) (get_or flags t 0 ∷ []) (omega (arith, length-take-le t flags (omega arith)))
-    ∙ rw (take-suc flags t 0 h)
+-- a part that is written over is a run
+pub part_laid : (l vs : List ℕ) (at k : ℕ) → k ≡ length vs → at + k ≤ length l → put_mid at k l vs ≡ sets l at vs
+part_laid l vs at k e h = rw (e, drop-drop) (sym (sets-eq vs l at (omega arith) ∙ append_assoc (take at l) vs (drop (at + length vs) l)))
 
 -- ---- numbers
 
@@ -41,54 +40,48 @@ rent_more l rents at t h =
     (omega (arith, length-bytes_all 4 (take t rents), length-take-le t rents (omega arith)))
     ∙ rw (take-suc rents t 0 h, bytes_join 4 (take t rents) (get_or rents t 0 ∷ []))
 
--- four bytes, stored one after the other with one division each
-pub four_stored : (l : List ℕ) (at x : ℕ) → x < 4294967296
-    → set (set (set (set l at (x % 256)) (at + 1) (x / 256 % 256)) (at + 2) (x / 65536 % 256)) (at + 3) (x / 16777216) ≡ sets l at (bytes_of 4 x)
+-- four low bytes of a number are its four
+pub four_low : (x : ℕ) → to_le_bytes w32 x ≡ bytes_of 4 x
 unfolding bytes_of
-four_stored l at x h =
+four_low x =
     let b : x / 256 / 256 ≡ x / 65536 = omega arith in
-    let c : x / 256 / 256 / 256 % 256 ≡ x / 16777216 = omega arith in
-    let d : at + 1 ≡ suc at = omega arith in
-    let e : at + 2 ≡ suc (suc at) = omega arith in
-    let f : at + 3 ≡ suc (suc (suc at)) = omega arith in
-    rw (c, b, d, e, f)
+    let c : x / 65536 / 256 ≡ x / 16777216 = omega arith in
+    rw (b, c)
 
--- a number's low four bytes and its high four are its eight
-eight_bytes : (x : ℕ) → bytes_of 4 (x % 4294967296) ++ bytes_of 4 (x / 4294967296) ≡ bytes_of 8 x
+-- eight low bytes are its eight
+pub eight_low : (x : ℕ) → to_le_bytes w64 x ≡ bytes_of 8 x
 unfolding bytes_of
-eight_bytes x =
-    let a : x % 4294967296 % 256 ≡ x % 256 = omega arith in
-    let b : x % 4294967296 / 256 ≡ x / 256 % 16777216 = omega (arith, div-div-eq-div-mul x 256 16777216) in
-    let c : x / 256 % 16777216 % 256 ≡ x / 256 % 256 = omega arith in
-    let d : x / 256 % 16777216 / 256 ≡ x / 256 / 256 % 65536 = omega (arith, div-div-eq-div-mul (x / 256) 256 65536) in
-    let e : x / 256 / 256 % 65536 % 256 ≡ x / 256 / 256 % 256 = omega arith in
-    let f : x / 256 / 256 % 65536 / 256 ≡ x / 256 / 256 / 256 % 256 = omega (arith, div-div-eq-div-mul (x / 256 / 256) 256 256) in
-    let g : x / 4294967296 ≡ x / 256 / 256 / 256 / 256 = omega arith in
-    rw (a, b, c, d, e, f, mod-mod, g)
+eight_low x =
+    let b : x / 256 / 256 ≡ x / 65536 = div-div-eq-div-mul x 256 256 in
+    let c : x / 65536 / 256 ≡ x / 16777216 = div-div-eq-div-mul x 65536 256 in
+    let d : x / 16777216 / 256 ≡ x / 4294967296 = div-div-eq-div-mul x 16777216 256 in
+    let e : x / 4294967296 / 256 ≡ x / 1099511627776 = div-div-eq-div-mul x 4294967296 256 in
+    let f : x / 1099511627776 / 256 ≡ x / 281474976710656 = div-div-eq-div-mul x 1099511627776 256 in
+    let g : x / 281474976710656 / 256 ≡ x / 72057594037927936 = div-div-eq-div-mul x 281474976710656 256 in
+    rw (b, c, d, e, f, g)
+
+-- and the first two of eight are two
+pub two_low : (x : ℕ) → take 2 (to_le_bytes w64 x) ≡ bytes_of 2 x
+unfolding bytes_of
+two_low x = refl
 
 -- ---- the whole plan
 
 -- five runs, each where the one before it ends
-five_runs : (l a b c d e : List ℕ) (n : ℕ) → length a ≡ 8 → length b ≡ 4 → length c ≡ 4 → length d ≡ n
-    → sets (sets (sets (sets (sets l 0 a) 8 b) 12 c) 16 d) (16 + n) e ≡ sets l 0 (a ++ (b ++ c) ++ d ++ e)
+five_runs : (l a b c d e : List ℕ) (n : ℕ) → length a ≡ 6 → length b ≡ 2 → length c ≡ 8 → length d ≡ n
+    → sets (sets (sets (sets (sets l 0 a) 6 b) 8 c) 16 d) (16 + n) e ≡ sets l 0 (a ++ b ++ c ++ d ++ e)
 five_runs l a b c d e n ha hb hc hd =
-    let two : length (a ++ b) ≡ 12 = omega (arith, length-append a b) in
-    let three : length (a ++ (b ++ c)) ≡ 16 = omega (arith, length-append a (b ++ c), length-append b c) in
-    let four : length (a ++ (b ++ c) ++ d) ≡ 16 + n = omega (arith, length-append (a ++ (b ++ c)) d) in
-    rw (runs_join l 0 8 a b (omega arith), runs_join l 0 12 (a ++ b) c (omega arith), append_assoc a b c, runs_join l 0 16 (a ++ (b ++ c)) d (omega arith), runs_join l 0 (16 + n) (a ++ (b ++ c) ++ d) e (omega arith))
+    let two : length (a ++ b) ≡ 8 = omega (arith, length-append a b) in
+    let three : length ((a ++ b) ++ c) ≡ 16 = omega (arith, length-append (a ++ b) c) in
+    let four : length (((a ++ b) ++ c) ++ d) ≡ 16 + n = omega (arith, length-append ((a ++ b) ++ c) d) in
+    rw (runs_join l 0 6 a b (omega arith), runs_join l 0 8 (a ++ b) c (omega arith), runs_join l 0 16 ((a ++ b) ++ c) d (omega arith), runs_join l 0 (16 + n) (((a ++ b) ++ c) ++ d) e (omega arith))
+    (simp append_assoc)
 
-length-mark : (n : ℕ) → length (mark_bytes n) ≡ 8
-unfolding bytes_of
-length-mark n = refl
-
--- the mark, the low and the high half of the cost, the flags and the rents, each where the one before it ends, are the plan
+-- the mark, the count, the cost, the flags and the rents, each where the one before it ends, are the plan
 pub plan_laid : (l : List ℕ) (cost : ℕ) (flags rents : List ℕ)
-    → sets (sets (sets (sets (sets l 0 (mark_bytes (length flags))) 8 (bytes_of 4 (cost % 4294967296))) 12 (bytes_of 4 (cost / 4294967296))) 16 flags) (16 + length flags) (bytes_of_all 4 rents)
+    → sets (sets (sets (sets (sets l 0 (67 ∷ 80 ∷ 76 ∷ 1 ∷ 0 ∷ 0 ∷ [])) 6 (bytes_of 2 (length flags))) 8 (bytes_of 8 cost)) 16 flags) (16 + length flags) (bytes_of_all 4 rents)
     ≡ sets l 0 (plan_bytes cost flags rents)
-unfolding plan_bytes
+unfolding plan_bytes bytes_of
 plan_laid l cost flags rents =
-    let n = length flags in
-    let low = cost % 4294967296 in
-    let high = cost / 4294967296 in
-    five_runs l (mark_bytes n) (bytes_of 4 low) (bytes_of 4 high) flags (bytes_of_all 4 rents) n (length-mark n) (length-bytes 4 low) (length-bytes 4 high) refl
-    ∙ ap (λ (eight : List ℕ). sets l 0 (mark_bytes n ++ eight ++ flags ++ bytes_of_all 4 rents)) (eight_bytes cost)
+    five_runs l (67 ∷ 80 ∷ 76 ∷ 1 ∷ 0 ∷ 0 ∷ []) (bytes_of 2 (length flags)) (bytes_of 8 cost) flags (bytes_of_all 4 rents) (length flags)
+    refl (length-bytes 2 (length flags)) (length-bytes 8 cost) refl

@@ -1,4 +1,3 @@
--- Writing plans: definitions that a reader has to believe, what the call promises, and what its steps look at.
+-- Writing plans: definitions that a reader has to believe and what the call promises.
 pub mod Write
 pub mod Promise
-pub mod Laying

@@ -1,12 +1,10 @@
 -- Writing a plan from a trace, flags and rents into a lent buffer. Assumes nothing.
 use Rattle.std.specs.Prelude.{ℕ, List, ◌++◌, length, drop, ltb}
 use Rattle.model.specs.Model.{cost}
-use Rattle.model.specs.Refusals.{Tried, passes, refusal, row, next, Answer, fine, refused, answer}
+use Rattle.model.specs.Refusals.{Tried, passes, refusal, row, next, Answer, answer}
 use Rattle.trace.specs.TraceFile.{requests_at, trace_tried, trace_in}
 use Rattle.plan.specs.PlanFile.{shape_of, length_of, rents_tried, plan_bytes}
 use Rattle.replay.specs.Replay.{named, count_tried, flags_tried}
-use Rattle.writer.specs.declared.Written.{Written}
-use Rattle.writer.specs.declared.Written.TheVariants.{Cost, Refused}
 
 -- row 19, for a buffer of so many bytes
 abbrev pub buffer_tried : (n room : ℕ) → Tried
@@ -39,8 +37,3 @@ laid (refusal number place) bytes buffer = buffer
 abbrev pub buffer_of : (trace flags rents buffer : List ℕ) → List ℕ
 buffer_of tr flags rents buffer =
     laid (write_tried tr flags rents (length buffer)) (plan_bytes (written_cost tr flags) flags rents) buffer
-
--- document 01's number and values for each case of `Written`
-abbrev pub said : Written → Answer ℕ
-said (Cost c) = fine c
-said (Refused r) = refused r.number r.place

@@ -8,22 +8,12 @@ use model::Refusal;
 mod bytes;
 mod rows;
 
-// What writing answers: the plan's cost.
-#[derive(Clone, Copy)]
-pub enum Written {
-    Cost(u64),
-    Refused(Refusal),
-}
-
-// The plan's bytes from the buffer's start, and the rest as it was; or the first of refusals 1 to 8, 11, 13, 14, 15, 17 and 19 that holds.
-pub fn write(trace: &[u8], flags: &[u8], rents: &[u32], buffer: &mut [u8]) -> Written
+// The plan's cost, its bytes from the buffer's start, and the rest as it was; or the first of refusals 1 to 8, 11, 13, 14, 15, 17
+// and 19 that holds.
+pub fn write(trace: &[u8], flags: &[u8], rents: &[u32], buffer: &mut [u8]) -> Result<u64, Refusal>
     ensures { Wrote trace.now flags.now rents.now buffer.old result buffer.new }
 {
-    match rows::tried(trace, flags, rents, buffer.len()) {
-        Written::Refused(r) => Written::Refused(r),
-        Written::Cost(cost) => {
-            bytes::plan(buffer, cost, flags, rents);
-            Written::Cost(cost)
-        }
-    }
+    let cost = rows::tried(trace, flags, rents, buffer.len())?;
+    bytes::plan(buffer, cost, flags, rents);
+    Ok(cost)
 }

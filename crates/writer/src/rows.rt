@@ -1,61 +1,34 @@
 // The rows of a write, each tried after those above it.
 ghost use Rattle.std.specs.Prelude.{◌≡◌, ◌<◌, length};
-ghost use Rattle.model.specs.Refusals.{next, refusal};
-ghost use Rattle.model.specs.Refusals as rows;
-ghost use Rattle.trace.specs.TraceFile.{trace_tried};
+ghost use Rattle.model.specs.Refusals.{said, next, answered};
 ghost use Rattle.plan.specs.PlanFile.{rents_tried};
-ghost use Rattle.writer.specs.Write.{said, write_of, buffer_tried};
+ghost use Rattle.writer.specs.Write.{write_of, buffer_tried};
 
-use crate::Written;
-use crate::bytes::{Head, Rent};
-use model::{Outcome, Refusal};
-use replay::Replayed;
-use trace::Checked;
+use model::Refusal;
+use plan::{HEAD, RENT};
 
-// The refusal where a list has not as many numbers as the trace has requests: the trace's own rows come first.
-pub fn uncounted(trace: &[u8]) -> Refusal
-    ensures { refusal result.number result.place ≡ next (trace_tried trace.now) (refusal 11 0) }
+// The cost, or the first refusal that holds, for a buffer of `room` bytes. The trace's own rows come before the count of the rents.
+pub fn tried(trace: &[u8], flags: &[u8], rents: &[u32], room: usize) -> Result<u64, Refusal>
+    ensures { answered result ≡ write_of trace.now flags.now rents.now room }
 {
-    match trace::check(trace) {
-        Checked::Refused(r) => r,
-        Checked::Sound(_) => Refusal {
-            number: 11,
-            place: 0,
-        },
+    if rents.len() != trace::requests(trace) {
+        trace::check(trace)?;
+        return Err(Refusal::RequestCount);
     }
+    let totals = replay::replay(trace, flags)?;
+    self::room(rents, room)?;
+    Ok(totals.total)
 }
 
 // Rows 17 and 19, for a buffer of `room` bytes.
-pub fn room(rents: &[u32], room: usize) -> Outcome
+fn room(rents: &[u32], room: usize) -> Result<(), Refusal>
     requires { length rents.now < 65536 }
-    ensures { rows.said result ≡ next (rents_tried 0 rents.now) (buffer_tried (length rents.now) room) }
+    ensures { said result ≡ next (rents_tried 0 rents.now) (buffer_tried (length rents.now) room) }
 {
-    let tried = plan::rents_refusal(rents);
-    let Outcome::Sound = tried else {
-        return tried;
-    };
+    plan::check_rents(rents)?;
     let n = rents.len();
-    if room < Head::SIZE + n + Rent::SIZE * n {
-        return Outcome::Refused(Refusal {
-            number: 19,
-            place: 0,
-        });
+    if room < HEAD + n + RENT * n {
+        return Err(Refusal::BufferTooShort);
     }
-    Outcome::Sound
-}
-
-// The cost, or the first refusal that holds, for a buffer of `room` bytes.
-pub fn tried(trace: &[u8], flags: &[u8], rents: &[u32], room: usize) -> Written
-    ensures { said result ≡ write_of trace.now flags.now rents.now room }
-{
-    if rents.len() != trace::requests(trace) {
-        return Written::Refused(uncounted(trace));
-    }
-    match replay::replay(trace, flags) {
-        Replayed::Refused(r) => Written::Refused(r),
-        Replayed::Done(totals) => match self::room(rents, room) {
-            Outcome::Refused(r) => Written::Refused(r),
-            Outcome::Sound => Written::Cost(totals.total),
-        },
-    }
+    Ok(())
 }
