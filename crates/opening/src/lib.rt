@@ -4,16 +4,16 @@
 ghost use Rattle.opening.specs.Opened.{Opened};
 
 use links::Links;
-use model::Refusal;
+use model::{Refusal, Requests};
 use trace::Header;
 
 // Of a sound trace the three lists are filled; of any other all is kept. The next and previous requests are needed no longer than
 // this call, so they stand here.
 pub fn begin(
     trace: &[u8],
-    from: &mut [u16; 6150],
-    charge: &mut [u32; 1024],
-    worth: &mut [u32; 2050],
+    from: &mut [u16; ways::PLACES],
+    charge: &mut [u32; Requests::MAX],
+    worth: &mut [u32; worths::PLACES],
 ) -> Result<Header, Refusal>
     ensures { Opened trace.now from.old charge.old worth.old result from.new charge.new worth.new }
 {

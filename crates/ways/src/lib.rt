@@ -6,31 +6,45 @@ ghost use Rattle.std.specs.Prelude.{◌≡◌};
 ghost use Rattle.ways.specs.Promise.{Sourced, Charged, Measured};
 
 use crate::turns::Network;
+use model::Requests;
 
 mod lists;
 mod origins;
 mod paid;
 mod turns;
 
+// How many nodes a list has room for: a point before each request, the last point, and each request.
+pub const NODES: usize = 2 * Requests::MAX + 2;
+
+// How many places a list of ways has: three for each node.
+pub const PLACES: usize = 3 * NODES;
+
 // The length of a way that is closed.
 pub const CLOSED: u32 = u32::MAX;
 
 // Where all ways come from, three for each node; nothing where n is over 1024.
-pub fn sources(next: &[u16; 1024], prev: &[u16; 1024], n: usize, from: &mut [u16; 6150])
+pub fn sources(
+    next: &[u16; Requests::MAX],
+    prev: &[u16; Requests::MAX],
+    n: usize,
+    from: &mut [u16; PLACES],
+)
     ensures { Sourced n next.now prev.now from.old from.new }
 {
-    if n <= 1024 {
+    if n <= Requests::MAX {
         origins::lay(next, prev, n, from);
     }
 }
 
 // The charges of all requests; nothing where there are over 1024.
-pub fn charges(trace: &[u8], charges: &mut [u32; 1024])
+pub fn charges(trace: &[u8], charges: &mut [u32; Requests::MAX])
     ensures { Charged trace.now charges.old charges.new }
 {
     let n = trace::requests(trace);
-    if n <= 1024 {
-        paid::lay(trace, n, charges);
+    if n <= Requests::MAX {
+        for t in 0..n {
+            charges[t] = paid::charge(trace, t);
+        }
     }
 }
 
@@ -39,15 +53,15 @@ pub fn lengths(
     n: usize,
     fill: u32,
     k: u8,
-    from: &[u16; 6150],
-    charges: &[u32; 1024],
-    flags: &[u8; 1024],
-    worth: &[u32; 2050],
-    len: &mut [u32; 6150],
+    from: &[u16; PLACES],
+    charges: &[u32; Requests::MAX],
+    flags: &[u8; Requests::MAX],
+    worth: &[u32; NODES],
+    len: &mut [u32; PLACES],
 )
     ensures { Measured n fill k from.now charges.now flags.now worth.now len.old len.new }
 {
-    if n <= 1024 {
+    if n <= Requests::MAX {
         let network = Network {
             n,
             fill,

@@ -1,10 +1,12 @@
 // Storing three numbers at the places of a node.
-ghost use Rattle.std.specs.Prelude.{◌≡◌, ◌<◌, length};
+ghost use Rattle.std.specs.Prelude.{◌≡◌, ◌<◌};
 ghost use Rattle.ways.specs.Parts.{put_at};
 
+use crate::PLACES;
+
 // Three numbers stored at the places of node u.
-pub fn put<T: Copy>(list: &mut [T], u: usize, a: T, b: T, c: T)
-    requires { (u < 2050) × (length list.old ≡ 6150) }
+pub fn put<T: Copy>(list: &mut [T; PLACES], u: usize, a: T, b: T, c: T)
+    requires { u < 2050 }
     ensures { list.new ≡ put_at list.old u a b c }
 {
     let at = 3 * u;

@@ -1,9 +1,11 @@
 // Where the ways into the nodes come from.
-ghost use Rattle.std.specs.Prelude.{◌≡◌, suc, ◌+◌, ◌-◌, ◌≤◌, ◌<◌, cond, ltb, length};
+ghost use Rattle.std.specs.Prelude.{◌≡◌, suc, ◌+◌, ◌-◌, ◌≤◌, ◌<◌, cond, ltb};
 ghost use Rattle.ways.specs.Ways.{point_source, request_source};
 ghost use Rattle.ways.specs.Parts.{put_both};
 
+use crate::PLACES;
 use crate::lists::put;
+use model::Requests;
 
 // The node of request s, or of t where there is no request s.
 fn node(n: usize, s: u16, t: usize) -> u16
@@ -11,13 +13,18 @@ fn node(n: usize, s: u16, t: usize) -> u16
     ensures { result ≡ n + 1 + cond (ltb s n) s t }
 {
     let s = usize::from(s);
-    let held = if s < n { s } else { t };
-    (n + 1 + held) as u16
+    let request = if s < n { s } else { t };
+    (n + 1 + request) as u16
 }
 
 // The sources of the ways into all nodes.
-pub fn lay(next: &[u16; 1024], prev: &[u16; 1024], n: usize, from: &mut [u16])
-    requires { (n ≤ 1024) × (length from.old ≡ 6150) }
+pub fn lay(
+    next: &[u16; Requests::MAX],
+    prev: &[u16; Requests::MAX],
+    n: usize,
+    from: &mut [u16; PLACES],
+)
+    requires { n ≤ 1024 }
     ensures { from.new ≡ put_both (point_source n) (request_source n next.now prev.now) n (suc n) n from.old }
 {
     for t in 0..n {

@@ -1,22 +1,23 @@
 // The lengths of the ways, request by request. Which of the four cases a request has is decided once, by branches:
 // under an emulator a comparison whose result is kept costs more than one that is jumped on.
-ghost use Rattle.std.specs.Prelude.{◌≡◌, ◌≤◌, ◌<◌, cond, ltb, length, get_or};
+ghost use Rattle.std.specs.Prelude.{◌≡◌, ◌≤◌, ◌<◌, cond, ltb, get_or};
 ghost use Rattle.ways.specs.Ways.{closed, held_by, unheld, now_held};
 ghost use Rattle.ways.specs.Parts.{idle_way, down_way, ahead_way, behind_way, middle_way};
 
-use crate::CLOSED;
 use crate::lists::put;
+use crate::{CLOSED, NODES, PLACES};
+use model::Requests;
 
 // What the lengths are told from: n requests and their fill price, where ways come from, what requests are charged, which items are
-// held, and what nodes are worth.
+// held, and what nodes are worth. Its methods take a request t < n: a struct of that fact would put each list behind two references.
 #[derive(Clone, Copy)]
 pub struct Network<'a> {
     pub n: usize,
     pub fill: u32,
-    pub from: &'a [u16; 6150],
-    pub charges: &'a [u32; 1024],
-    pub flags: &'a [u8; 1024],
-    pub worth: &'a [u32; 2050],
+    pub from: &'a [u16; PLACES],
+    pub charges: &'a [u32; Requests::MAX],
+    pub flags: &'a [u8; Requests::MAX],
+    pub worth: &'a [u32; NODES],
     ghost few: { n ≤ 1024 },
 }
 
@@ -196,8 +197,7 @@ impl<'a> Network<'a> {
     }
 
     // The lengths of the ways into all nodes, with k slots laid.
-    pub fn lay(&self, k: u8, len: &mut [u32])
-        requires { length len.old ≡ 6150 }
+    pub fn lay(&self, k: u8, len: &mut [u32; PLACES])
         ensures { len.new ≡ laid_in self.now k len.old }
     {
         let mut c = 0;

@@ -1,7 +1,8 @@
 // The worths at the start, told from the last request back.
-ghost use Rattle.std.specs.Prelude.{◌≡◌, ◌≤◌, ◌<◌, length};
+ghost use Rattle.std.specs.Prelude.{◌≡◌, ◌≤◌, ◌<◌};
 ghost use Rattle.worths.specs.Worths.{gain_by, ahead_by, point_by, Told};
 
+use crate::PLACES;
 use model::Requests;
 
 // What an item that is worth q after request u is worth before it.
@@ -17,8 +18,14 @@ pub fn gain(trace: &[u8], u: usize, q: u32) -> u32
 }
 
 // What holding request t's item is worth by its next request.
-pub fn ahead(trace: &[u8], next: &[u16; Requests::MAX], worth: &[u32], n: usize, t: usize) -> u32
-    requires { (t < n) × (n ≤ 1024) × (length worth.now ≡ 2050) }
+pub fn ahead(
+    trace: &[u8],
+    next: &[u16; Requests::MAX],
+    worth: &[u32; PLACES],
+    n: usize,
+    t: usize,
+) -> u32
+    requires { (t < n) × (n ≤ 1024) }
     ensures { result ≡ ahead_by trace.now n next.now worth.now t }
 {
     let u = usize::from(next[t]);
@@ -41,8 +48,8 @@ pub fn point(trace: &[u8], t: usize, after: u32, q: u32) -> u32
 }
 
 // Fills the worths of n requests.
-pub fn tell(trace: &[u8], next: &[u16; Requests::MAX], n: usize, worth: &mut [u32])
-    requires { (n ≤ 1024) × (length worth.old ≡ 2050) }
+pub fn tell(trace: &[u8], next: &[u16; Requests::MAX], n: usize, worth: &mut [u32; PLACES])
+    requires { n ≤ 1024 }
     ensures { Told trace.now n next.now worth.old worth.new }
 {
     worth[n] = 0;

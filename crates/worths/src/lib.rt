@@ -8,14 +8,12 @@ ghost use Rattle.worths.specs.Worths.{Started, Raised, Rented};
 use model::Requests;
 
 mod back;
-mod grow;
-mod name;
 
 // The greatest worth of a point or a request: it fits four bytes.
 pub const MAX: u32 = u32::MAX;
 
 // How many places a list of worths has: enough for a point before each request, the last point, and each request.
-pub const PLACES: usize = 2050;
+pub const PLACES: usize = 2 * Requests::MAX + 2;
 
 // The worths that fit no flags and no slots, told from the last request back by the list of next requests; the rest is kept. All is
 // kept of a trace that has too many requests.
@@ -28,16 +26,24 @@ pub fn start(trace: &[u8], next: &[u16; Requests::MAX], worth: &mut [u32; PLACES
     }
 }
 
-// Each worth before place `nodes` grows by what its distance is short of d; the rest is kept.
+// Each worth before place `nodes` grows by what its distance is short of d; the rest is kept. It is stored only where it grows: wide
+// arithmetic on all of them is slow where the program runs under an emulator.
 pub fn raise(dist: &[u32; PLACES], nodes: usize, d: u64, worth: &mut [u32; PLACES])
     ensures { Raised dist.now nodes d worth.old worth.new }
 {
-    grow::grow(dist, nodes.min(PLACES), d, worth);
+    for v in 0..nodes.min(PLACES) {
+        let at = u64::from(dist[v]);
+        if at < d {
+            worth[v] = worth[v].saturating_add((d - at).min(u64::from(MAX)) as u32);
+        }
+    }
 }
 
 // The rents that the worths of points name, in the first n places; the rest is kept.
 pub fn rents(worth: &[u32; PLACES], n: usize, rents: &mut [u32; Requests::MAX])
     ensures { Rented worth.now n rents.old rents.new }
 {
-    name::name(worth, n.min(Requests::MAX), rents);
+    for g in 0..n.min(Requests::MAX) {
+        rents[g] = worth[g].saturating_sub(worth[g + 1]);
+    }
 }

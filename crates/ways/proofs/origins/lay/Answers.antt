@@ -1,3 +1,4 @@
+use borrow.Author.Rules.{rules}
 use native.Mathlib.Omega.{arith}
 use Rattle.ways.proofs.Rows.{laying_start, laying_turn, laying_end}
 use Rattle.ways.proofs.Steps.{point_named, last_named, request_named}
@@ -7,7 +8,7 @@ use Rattle.ways.proofs.origins.lay.Goals as goal
 pub loop-t-init : goal.loop-t-init
 loop-t-init c =
     let a = c.args in
-    laying_start (point_source a.n) (request_source a.n a.next.now a.prev.now) a.n a.from.now c.requires.1
+    laying_start (point_source a.n) (request_source a.n a.next.now a.prev.now) a.n a.from.now (search rules)
 
 pub loop-t-preserved : goal.loop-t-preserved
 loop-t-preserved c =

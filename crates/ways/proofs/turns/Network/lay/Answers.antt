@@ -1,8 +1,9 @@
+use borrow.Author.Rules.{rules}
 use Rattle.ways.proofs.Steps.{measuring-start, measuring-turn, measuring-end}
 use Rattle.ways.proofs.turns.Network.lay.Goals as goal
 
 pub loop-t-init : goal.loop-t-init
-loop-t-init c = let s = c.args.self.now in measuring-start s.n s.fill c.args.k s.from.now s.charges.now s.flags.now s.worth.now c.args.len.now c.requires
+loop-t-init c = let s = c.args.self.now in measuring-start s.n s.fill c.args.k s.from.now s.charges.now s.flags.now s.worth.now c.args.len.now (search rules)
 
 pub loop-t-preserved : goal.loop-t-preserved
 loop-t-preserved c =

@@ -1,6 +1,6 @@
 -- The loop lays one charge after the other. Assumes nothing.
 use Rattle.ways.proofs.Steps.{Charging}
-use Rattle.ways.proofs.paid.lay.Given as goal
+use Rattle.ways.proofs.charges.Given as goal
 
 abbrev pub invariant-loop-t : goal.invariant-loop-t
 invariant-loop-t l = Charging l.trace l.initial.charges l.charges l.n l.t
