@@ -63,7 +63,7 @@ fn digit_at(text: &[u8], at: usize) -> Option<u64>
     }
 }
 
-// The number of all the digits from place `at` on.
+// The number of all the digits from place `at` on. The place is counted by hand, since it is answered.
 fn long(text: &[u8], at: usize, top: u32) -> Option<Number>
     requires { at ≤ length text.now }
     ensures { (said text.now result ≡ digits_from top 0 (drop at text.now)) × Inside text.now result }

@@ -16,7 +16,7 @@ use pages::Page;
 // Room for every answer but a schedule, which is laid line by line.
 pub const ROOM: usize = 256;
 
-// How far a text's signs are read.
+// How far a text's signs are read. The page is lent beside it: two structs deep, what the caller's bytes hold at the end gets no proof.
 #[derive(Clone, Copy)]
 struct Pen {
     // How many numbers are taken.

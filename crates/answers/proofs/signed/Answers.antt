@@ -1,15 +1,21 @@
-use mathlib.Core.Path.{◌≡◌, refl}
-use native.Mathlib.Omega.{arith}
-use Prim.Native.Nat.{suc, ◌-◌}
+use mathlib.Core.Path.{refl}
+use mir.Facts.{to_z-of_z}
+use mir.Syntax.{w64}
+use Rattle.pages.proofs.Laws.{lies_as}
 use Rattle.sentences.proofs.Fitting.{laid_whole}
-use Rattle.answers.proofs.Floors.{not_negative, negative}
+use Rattle.answers.proofs.Floors.{negative, not_negative}
 use Rattle.answers.proofs.signed.Goals as goal
 
-pub returns-then-taken-leasts : goal.returns-then-taken-leasts
-returns-then-taken-leasts c = rw (not_negative _ _ c.if-taken-leasts.true) (laid_whole refl c.lay.ensures)
+pub returns-then-floor-lt0 : goal.returns-then-floor-lt0
+returns-then-floor-lt0 c =
+    let z = to_z-of_z {w = w64} {z = c.args.floor} c.ranges.floor in
+    let size = rw z at c.unsigned_abs-size.ensures.value in
+    let below = rw z at c.if-floor-lt0.true in
+    lies_as (negative c.args.floor _ size below) (laid_whole refl c.lay.ensures)
 
 pub returns : goal.returns
 returns c =
-    let a = c.args in
-    let one : suc (a.taken - suc a.leasts) ≡ a.taken - a.leasts = omega arith in
-    rw (negative _ _ c.if-taken-leasts.false, one) (laid_whole refl c.lay-2.ensures)
+    let z = to_z-of_z {w = w64} {z = c.args.floor} c.ranges.floor in
+    let size = rw z at c.unsigned_abs-size.ensures.value in
+    let above = rw z at c.if-floor-lt0.false in
+    lies_as (not_negative c.args.floor _ size above) (laid_whole refl c.lay-2.ensures)
