@@ -7,7 +7,8 @@ ghost use Rattle.frontier.specs.Frontier.{desk_of, offered, beyond, nearest, tho
 
 // How far off each node is, where the way goes on from it, and the two lists with how many nodes stand in each. The fields may hold
 // anything: what is promised of an offer and of refilling is promised of all that they hold. The two numbers stand first, since the
-// compiler then sees that no store into a list changes them, and keeps them in registers.
+// compiler then sees that no store into a list changes them. A struct for each list with its number was tried, and solving took 2 to 4
+// in a hundred longer than with numbers that no list stands beside; in this order it takes no longer.
 #[derive(Drop)]
 pub struct Frontier {
     pub top: usize,

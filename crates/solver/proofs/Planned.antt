@@ -1,15 +1,17 @@
 -- From slots laid to an accepted plan in the buffer. Assumes nothing.
-use mathlib.Core.Path.{◌≡◌, refl, sym, ◌∙◌}
+use mathlib.Core.Path.{◌≡◌, refl, ◌∙◌}
 use Prim.Native.Nat.{ℕ, zero, suc, ◌≤◌, ◌<◌}
 use native.Mathlib.Omega.{arith}
 use native.Mathlib.Decide.{dec_lt}
 use mathlib.Core.Bool.{false}
 use mathlib.Core.List.{List}
+use Rattle.std.proofs.Common.{Result}
 use lib.ListN.{length, get_or, take, get_or-eq_default}
 use lib.Seq.{get_or-take, length-take-le}
 use Rattle.model.specs.Numbers.{max_rent}
 use Rattle.model.specs.Plans.{flags_in, rents_in}
-use Rattle.model.specs.Refusals.{passes, fine, refused}
+use Rattle.model.specs.Refusals.{passes, fine}
+use Rattle.model.specs.declared.Refusal.{Refusal}
 use Rattle.trace.specs.TraceFile.{slots_at, trace_in}
 use Rattle.trace.proofs.Sound.{reqs_length}
 use Rattle.plan.proofs.Sound.{sound_rents}
@@ -22,7 +24,6 @@ use Rattle.network.proofs.Same.{sound_same}
 use Rattle.network.proofs.Solved.{sound_solved}
 use Rattle.writer.specs.Write as write
 use Rattle.writer.specs.Promise.{Wrote}
-use Rattle.writer.specs.declared.Written.{Written}
 use Rattle.writer.proofs.Answered.{writes_pass}
 use Rattle.exists.proofs.Accepted.{values_pass, flags_cost, plan_of, proving_accepted}
 use Rattle.worths.specs.Worths.{Rented}
@@ -30,7 +31,6 @@ use Rattle.steps.specs.Lists.{points_in, requests_in}
 use Rattle.steps.specs.Slots.{Laid, Cheap}
 use Rattle.steps.specs.Ready.{Ready}
 use Rattle.solver.specs.Solve.{Accepted}
-use Rattle.solver.specs.declared.Solved.TheVariants.{Least}
 use Rattle.steps.proofs.Laying.{laid_size, laid_few}
 
 -- ---- flags and rents that prove their cost
@@ -94,27 +94,16 @@ module _ {trace from charges worth buffer flags rents : List ℕ} (r : Ready tra
         long = omega (arith, r.room);
       })
 
-  answered : write.write_of trace flags rents (length buffer) ≡ fine (flags_cost trace flags)
-  answered = rw proving_writes
-
-  -- so the writer does not refuse them
-  pub proving_written : {w : Written} {buffer' : List ℕ} (number place : ℕ) → Wrote trace flags rents buffer w buffer' → write.said w ≡ refused number place → ⊥
-  proving_written number place d e =
-      let q : fine (flags_cost trace flags) ≡ refused number place = sym answered ∙ (sym d.answer ∙ e) in
-      let z : ◌≡◌ {A = ℕ} 0 1 = cc in
-      omega arith
-
-  -- and what it writes is accepted at the cost that it answers
-  pub proving_laid : {w : Written} {buffer' : List ℕ} (c : ℕ) → Wrote trace flags rents buffer w buffer' → write.said w ≡ fine c
-      → Accepted trace buffer (Least c) buffer'
-  proving_laid {w} {buffer'} c d e =
-      let q : fine c ≡ fine (flags_cost trace flags) = sym e ∙ (d.answer ∙ answered) in
+  -- and what the writer writes is accepted at the cost that it answers
+  pub proving_laid : {w : Result ℕ Refusal} {buffer' : List ℕ} → Wrote trace flags rents buffer w buffer' → Accepted trace buffer w buffer'
+  proving_laid d =
+      let written : write.write_of trace flags rents (length buffer) ≡ fine (flags_cost trace flags) = rw proving_writes in
       let long = plan_length (flags_cost trace flags) flags rents in
       record {
         plan = plan_of trace flags rents;
         cost = flags_cost trace flags;
         long = omega (arith, long, p.flags_long, p.rents_long, reqs_length trace);
         accepted = proving_accepted trace flags rents r.sound p;
-        answer = q;
+        answer = d.answer ∙ written;
         laid = d.held ∙ rw proving_writes;
       }

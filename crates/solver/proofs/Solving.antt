@@ -8,20 +8,19 @@ use lib.Dec.{ltb}
 use lib.ListN.{length}
 use borrow.Author.Tests.{lt-ltb, le-ltb}
 use Rattle.model.specs.Numbers.{max_requests}
-use Rattle.model.specs.Refusals.{passes, refusal, row}
+use Rattle.std.proofs.Common.{Result, Ok, Err}
+use Rattle.model.specs.Refusals.{passes, refusal, row, number_of, place_of}
 use Rattle.model.specs.declared.Refusal.{Refusal}
+use Rattle.model.specs.declared.Refusal.TheVariants.{BufferTooShort}
 use Rattle.model.proofs.Refusals.{answer_fine, answer_refused}
 use Rattle.trace.specs.TraceFile.{requests_at, trace_tried}
 use Rattle.trace.specs.Answers.{header_in}
 use Rattle.trace.specs.declared.Header.{Header}
-use Rattle.trace.specs.declared.Checked.TheVariants as checked
 use Rattle.trace.proofs.Sound.{sound_trace}
 use Rattle.plan.specs.PlanFile.{shape_of, length_of}
 use Rattle.opening.specs.Opened.{Opened}
 use Rattle.steps.specs.Ready.{Ready}
 use Rattle.solver.specs.Solve.{solve_tried, Accepted, Promise}
-use Rattle.solver.specs.declared.Solved.{Solved}
-use Rattle.solver.specs.declared.Solved.TheVariants as solved
 
 -- ---- rows
 
@@ -46,14 +45,14 @@ module _ (trace : List ℕ) (room : ℕ) where
 -- ---- a trace that is refused
 
 pub refused_permitted : {trace from₀ charges₀ worth₀ from charges worth : List ℕ} {r : Refusal} (buffer : List ℕ)
-    → Opened trace from₀ charges₀ worth₀ (checked.Refused r) from charges worth → Promise trace buffer (solved.Refused r) buffer
+    → Opened trace from₀ charges₀ worth₀ (Err r) from charges worth → Promise trace buffer (Err r) buffer
 refused_permitted {trace} {r = r} buffer f =
-    rw (tried_refused trace (length buffer) r.number r.place (answer_refused (trace_tried trace) (header_in trace) r.number r.place f.answer))
+    rw (tried_refused trace (length buffer) (number_of r) (place_of r) (answer_refused (trace_tried trace) (header_in trace) (number_of r) (place_of r) f.answer))
     (refl, refl)
 
 -- ---- a sound one
 
-module _ {trace from₀ charges₀ worth₀ from charges worth : List ℕ} {h : Header} (f : Opened trace from₀ charges₀ worth₀ (checked.Sound h) from charges worth) where
+module _ {trace from₀ charges₀ worth₀ from charges worth : List ℕ} {h : Header} (f : Opened trace from₀ charges₀ worth₀ (Ok h) from charges worth) where
   passed : trace_tried trace ≡ passes
   passed = (answer_fine (trace_tried trace) (header_in trace) h f.answer).0
 
@@ -68,7 +67,7 @@ module _ {trace from₀ charges₀ worth₀ from charges worth : List ℕ} {h : 
 
   module _ (buffer : List ℕ) where
     -- a buffer that is too short is refused
-    pub short-permitted : length buffer < 16 + 5 * h.requests → Promise trace buffer (solved.Refused (record { number = 19; place = 0 })) buffer
+    pub short-permitted : length buffer < 16 + 5 * h.requests → Promise trace buffer (Err BufferTooShort) buffer
     short-permitted l = rw (tried-short trace (length buffer) passed (rw counted at l)) (refl, refl)
 
     module _ (room : 16 + 5 * h.requests ≤ length buffer) where
@@ -85,5 +84,5 @@ module _ {trace from₀ charges₀ worth₀ from charges worth : List ℕ} {h : 
       }
 
       -- and an accepted plan is what is promised
-      pub accepted-permitted : {r : Solved} {after : List ℕ} → Accepted trace buffer r after → Promise trace buffer r after
+      pub accepted-permitted : {r : Result ℕ Refusal} {after : List ℕ} → Accepted trace buffer r after → Promise trace buffer r after
       accepted-permitted a = rw (tried-fits trace (length buffer) passed (rw counted at room)) a

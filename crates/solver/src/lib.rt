@@ -7,46 +7,33 @@ use model::Refusal;
 use opening::begin;
 use output::write_least;
 use slots::{Lists, Slots};
-use trace::Checked;
 
 mod output;
 mod search;
 mod slots;
 mod walk;
 
-// What solving answers: the least cost of the trace.
-#[derive(Clone, Copy)]
-pub enum Solved {
-    Least(u64),
-    Refused(Refusal),
-}
-
-// Writes a least-cost plan from the buffer's start, and keeps the rest; or refuses by 1 to 8, then 19, and changes nothing.
-pub fn solve(trace: &[u8], buffer: &mut [u8]) -> Solved
+// Writes a least-cost plan from the buffer's start, keeps the rest, and answers the cost; or refuses by 1 to 8, then 19, and changes
+// nothing.
+pub fn solve(trace: &[u8], buffer: &mut [u8]) -> Result<u64, Refusal>
     ensures { Promise trace.now buffer.old result buffer.new }
 {
     let mut from = [1u16; 6150];
     let mut charges = [1u32; 1024];
+    // Worths of 0 are made where they stand; others would be made beside the struct first, and the stack is short.
     let mut slots = Slots {
         worth: [0; 2050],
         flags: [0; 1024],
     };
-    match begin(trace, &mut from, &mut charges, &mut slots.worth) {
-        Checked::Refused(r) => Solved::Refused(r),
-        Checked::Sound(header) => {
-            if buffer.len() < 16 + 5 * header.requests {
-                return Solved::Refused(Refusal {
-                    number: 19,
-                    place: 0,
-                });
-            }
-            let lists = Lists {
-                trace,
-                header,
-                from: &from,
-                charges: &charges,
-            };
-            write_least(&lists, &mut slots, buffer)
-        }
+    let header = begin(trace, &mut from, &mut charges, &mut slots.worth)?;
+    if buffer.len() < 16 + 5 * header.requests {
+        return Err(Refusal::BufferTooShort);
     }
+    let lists = Lists {
+        trace,
+        header,
+        from: &from,
+        charges: &charges,
+    };
+    write_least(&lists, &mut slots, buffer)
 }

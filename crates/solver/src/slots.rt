@@ -65,7 +65,8 @@ impl Slots {
         ensures { Laid lists.now.trace.now lists.now.header.requests lists.now.header.fill w self.new.worth self.new.flags lists.now.from.now lists.now.charges.now × Cheap lists.now.header.requests self.new.worth }
     {
         let mut len = [1u32; 6150];
-        // It is made here: a search that is handed out is copied, and the stack is short.
+        // It is made here, and of zeros: a search that is handed out is copied, and lists whose bytes differ are made beside it first. The
+        // stack is too short for that.
         let mut search = Frontier {
             top: 0,
             waiting: 0,
