@@ -1,9 +1,8 @@
 // What of a chart is there before any request: its size, its styles, its marks, its title, the legend and the slot rows.
 use crate::out::put;
-use crate::sizes::{Sizes, less};
+use crate::sizes::Sizes;
 use replay::Totals;
 use std::io;
-use std::num::wrapping_add_u64;
 
 // The picture's size, its styles, its marks around the point that they stand at, and its background.
 pub fn open<O: Print>(out: &O, s: Sizes) -> io::Result<()> {
@@ -59,10 +58,8 @@ pub fn names<O: Print>(out: &O, s: Sizes, fill: u64, totals: Totals) -> io::Resu
 
 // The slot rows.
 pub fn rows<O: Print>(out: &O, s: Sizes) -> io::Result<()> {
-    let mut row: u64 = 0;
-    while row < s.slots {
+    for row in 0..s.slots {
         slot(out, s, row)?;
-        row += 1;
     }
     Ok(())
 }
@@ -70,11 +67,11 @@ pub fn rows<O: Print>(out: &O, s: Sizes) -> io::Result<()> {
 // A slot row, named at both ends.
 fn slot<O: Print>(out: &O, s: Sizes, row: u64) -> io::Result<()> {
     let y = s.y(row);
-    let name = wrapping_add_u64(y, 14);
-    let shown = wrapping_add_u64(row, 1);
+    let name = y.saturating_add(14);
+    let shown = row.saturating_add(1);
     let end = s.x(s.requests);
-    let width = less(end, Sizes::LEFT);
-    let right = wrapping_add_u64(end, 8);
+    let width = end.saturating_sub(Sizes::LEFT);
+    let right = end.saturating_add(8);
     put(
         out,
         b"<rect class=\"l\" x=\"@\" y=\"@\" width=\"@\" height=\"20\"/>\

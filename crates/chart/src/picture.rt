@@ -4,9 +4,9 @@
 use crate::out::put;
 use crate::sizes::Sizes;
 use crate::{frame, marks};
+use links::Links;
 use model::Requests;
 use replay::Totals;
-use schedule::Stepped;
 use std::io;
 
 pub fn draw<O: Print>(out: &O, trace: &[u8], plan: &[u8], totals: Totals) -> io::Result<()> {
@@ -17,113 +17,79 @@ pub fn draw<O: Print>(out: &O, trace: &[u8], plan: &[u8], totals: Totals) -> io:
     filled(out, trace, plan, s)
 }
 
-// The gaps, the keeps, and over them the requests.
+// The gaps, the keeps, and over them the requests. The plan has passed the audit, so nothing here is refused.
 fn filled<O: Print>(out: &O, trace: &[u8], plan: &[u8], s: Sizes) -> io::Result<()> {
     let flags = plan::flags(trace, plan);
-    let mut next = [0u16; Requests::MAX];
-    let mut prev = [0u16; Requests::MAX];
+    let mut links = Links::new();
     let mut slots = [0u8; Requests::MAX];
-    links::fill(trace, &mut next, &mut prev);
-    lanes::lanes(trace, flags, &mut slots);
-    gaps(out, trace, plan, s)?;
-    keeps(out, trace, flags, &slots, &next, s)?;
-    requests(out, trace, plan, &slots, &prev, s)?;
+    let _ = links.fill(trace);
+    let _ = lanes::lanes(trace, flags, &mut slots);
+    let picture = Picture {
+        trace,
+        plan,
+        flags,
+        links: &links,
+        slots: &slots,
+        s,
+    };
+    picture.gaps(out)?;
+    picture.keeps(out)?;
+    picture.requests(out)?;
     put(out, b"</svg>\n", &[])
 }
 
-// Each gap with how many items it holds, and its rent.
-fn gaps<O: Print>(out: &O, trace: &[u8], plan: &[u8], s: Sizes) -> io::Result<()> {
-    let mut t: usize = 0;
-    let n = trace::requests(trace);
-    while t < n {
-        gap(out, trace, plan, t, s)?;
-        t += 1;
-    }
-    Ok(())
-}
-
-fn gap<O: Print>(out: &O, trace: &[u8], plan: &[u8], t: usize, s: Sizes) -> io::Result<()> {
-    match schedule::step_of(trace, plan, t) {
-        Stepped::At(here) => marks::gap(out, t as u64, here.within, here.rent, s),
-        _ => Ok(()),
-    }
-}
-
-fn keeps<O: Print>(
-    out: &O,
-    trace: &[u8],
-    flags: &[u8],
-    slots: &[u8; Requests::MAX],
-    next: &[u16; Requests::MAX],
+// What is drawn: a plan for a trace, with the slot row of each request, and the measures.
+#[derive(Clone, Copy)]
+struct Picture<'a> {
+    trace: &'a [u8],
+    plan: &'a [u8],
+    flags: &'a [u8],
+    links: &'a Links,
+    slots: &'a [u8],
     s: Sizes,
-) -> io::Result<()> {
-    let mut t: usize = 0;
-    while t < flags.len() {
-        if flags[t] == 1 {
-            let to = link(next, t) as u64;
-            marks::keep(out, trace::item(trace, t), t as u64, to, row(slots, t), s)?;
+}
+
+impl Picture<'_> {
+    // Each gap with how many items it holds, and its rent.
+    fn gaps<O: Print>(&self, out: &O) -> io::Result<()> {
+        for t in 0..trace::requests(self.trace) {
+            if let Ok(Some(here)) = schedule::step_of(self.trace, self.plan, t) {
+                marks::gap(out, t as u64, here, self.s)?;
+            }
         }
-        t += 1;
+        Ok(())
     }
-    Ok(())
-}
 
-fn requests<O: Print>(
-    out: &O,
-    trace: &[u8],
-    plan: &[u8],
-    slots: &[u8; Requests::MAX],
-    prev: &[u16; Requests::MAX],
-    s: Sizes,
-) -> io::Result<()> {
-    let mut t: usize = 0;
-    let n = trace::requests(trace);
-    while t < n {
-        let after = row(slots, t);
-        let before = row(slots, link(prev, t));
-        request(out, trace, plan, t, after, before, s)?;
-        t += 1;
+    fn keeps<O: Print>(&self, out: &O) -> io::Result<()> {
+        for (t, flag) in self.flags.iter().enumerate() {
+            if *flag == 1 {
+                let item = trace::item(self.trace, t);
+                let next = place(&self.links.next, t) as u64;
+                marks::keep(out, item, t as u64, next, self.row(t), self.s)?;
+            }
+        }
+        Ok(())
     }
-    Ok(())
-}
 
-fn request<O: Print>(
-    out: &O,
-    trace: &[u8],
-    plan: &[u8],
-    t: usize,
-    after: u64,
-    before: u64,
-    s: Sizes,
-) -> io::Result<()> {
-    match schedule::step_of(trace, plan, t) {
-        Stepped::At(here) => marks::request(out, t as u64, here, after, before, s),
-        _ => Ok(()),
+    fn requests<O: Print>(&self, out: &O) -> io::Result<()> {
+        for t in 0..trace::requests(self.trace) {
+            if let Ok(Some(here)) = schedule::step_of(self.trace, self.plan, t) {
+                let before = self.row(place(&self.links.prev, t));
+                marks::request(out, t as u64, here, self.row(t), before, self.s)?;
+            }
+        }
+        Ok(())
+    }
+
+    // The slot row of request t.
+    fn row(&self, t: usize) -> u64 {
+        self.slots.get(t).map_or(0, |row| u64::from(*row))
     }
 }
 
 // The next or previous request of request t's item: as many as there are requests for none.
-fn link(links: &[u16; Requests::MAX], t: usize) -> usize {
-    if t < Requests::MAX {
-        return place(links[t]);
-    }
-    Requests::MAX
-}
-
-// A number of a list, as a place.
-fn place(x: u16) -> usize {
-    x as usize
-}
-
-// The slot row of request t.
-fn row(slots: &[u8; Requests::MAX], t: usize) -> u64 {
-    if t < Requests::MAX {
-        return wide(slots[t]);
-    }
-    0
-}
-
-// A row as a number to reckon with.
-fn wide(x: u8) -> u64 {
-    x as u64
+fn place(links: &[u16; Requests::MAX], t: usize) -> usize {
+    links
+        .get(t)
+        .map_or(Requests::MAX, |place| usize::from(*place))
 }
