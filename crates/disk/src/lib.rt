@@ -14,8 +14,8 @@ use std::io::Read;
 use std::rt::{Env, Files};
 use std::{fs, io};
 
-// Errors of the system's, by their numbers, since std has no kinds for them: no such word, a word
-// longer than its buffer, and a name that is no text.
+// Errors of the system's, by their numbers, so that they are said in its own words: no such word, a
+// word longer than its buffer, and a name that is no text.
 const EINVAL: i32 = 22;
 
 const ENAMETOOLONG: i32 = 36;

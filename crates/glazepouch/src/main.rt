@@ -5,106 +5,87 @@ mod said;
 mod solving;
 mod words;
 
-use audit::Audited;
-use disk::Loaded;
-use model::Requests;
-use pages::first;
-use said::Part;
+use said::{Part, tell};
+use std::io;
 use std::rt::{Env, Files};
-use words::{Command, Number};
-
-// A byte more than the longest sound trace has, so that a longer file is seen to be too long.
-const TRACE_ROOM: usize = 8 * Requests::MAX + 13;
-
-// The same of the longest sound plan.
-const PLAN_ROOM: usize = 5 * Requests::MAX + 17;
+use words::Command;
 
 // The two buffers serve every command, and each command has a call of its own, so that the solver finds little on the stack.
 fn main(rt: HostRuntime) {
     let err = rt.stderr();
-    let mut trace = [0u8; TRACE_ROOM];
-    let mut plan = [0u8; PLAN_ROOM];
-    match words::asked(&rt) {
+    let mut trace = [0u8; trace::ROOM];
+    let mut plan = [0u8; plan::ROOM];
+    let Some(command) = words::asked(&rt) else {
+        let _ = help(&err);
+        return;
+    };
+    let answered = match command {
         Command::Least => solving::solve(&rt, &err, false, &mut trace, &mut plan),
         Command::Solve => solving::solve(&rt, &err, true, &mut trace, &mut plan),
-        Command::Judge => on_plan(&rt, &err, Command::Judge, &mut trace, &mut plan),
-        Command::Audit => on_plan(&rt, &err, Command::Audit, &mut trace, &mut plan),
-        Command::Floor => on_plan(&rt, &err, Command::Floor, &mut trace, &mut plan),
-        Command::Schedule => on_plan(&rt, &err, Command::Schedule, &mut trace, &mut plan),
+        Command::Judge => on_plan(&rt, &err, &mut trace, &mut plan, |trace, plan| {
+            tell(&rt, Part::Judgement, trace, plan)
+        }),
+        Command::Audit => on_plan(&rt, &err, &mut trace, &mut plan, |trace, plan| {
+            tell(&rt, Part::Totals, trace, plan)
+        }),
+        Command::Floor => on_plan(&rt, &err, &mut trace, &mut plan, |trace, plan| {
+            tell(&rt, Part::Floor, trace, plan)
+        }),
+        Command::Schedule => on_plan(&rt, &err, &mut trace, &mut plan, |trace, plan| {
+            schedule(&rt, trace, plan)
+        }),
         Command::Ratio => on_costs(&rt, &err),
-        Command::Unknown => help(&err),
     };
+    if let Err(error) = answered {
+        disk::fail(&err, b"standard output", error);
+    }
 }
 
 // The commands on a trace and a plan. What can't be loaded has been said.
-fn on_plan<R: Files + Env + Print, E: Print>(
+#[inline(never)]
+fn on_plan<R: Files + Env, E: Print, T: FnOnce(&[u8], &[u8]) -> io::Result<()>>(
     rt: &R,
     err: &E,
-    asked: Command,
-    trace: &mut [u8; TRACE_ROOM],
-    plan: &mut [u8; PLAN_ROOM],
-) -> bool {
-    let Loaded::Bytes(n) = disk::load_argument(rt, err, 2, trace) else {
-        return false;
+    trace: &mut [u8; trace::ROOM],
+    plan: &mut [u8; plan::ROOM],
+    told: T,
+) -> io::Result<()>
+    requires { T.IsAlwaysCallable told }
+{
+    let Some(n) = disk::load_argument(rt, err, 2, trace) else {
+        return Ok(());
     };
-    let Loaded::Bytes(m) = disk::load_argument(rt, err, 3, plan) else {
-        return false;
+    let Some(m) = disk::load_argument(rt, err, 3, plan) else {
+        return Ok(());
     };
-    answered(rt, err, asked, first(trace, n), first(plan, m))
-}
-
-fn answered<O: Print, E: Print>(
-    out: &O,
-    err: &E,
-    asked: Command,
-    trace: &[u8],
-    plan: &[u8],
-) -> bool {
-    match asked {
-        Command::Judge => said::tell(out, err, Part::Judgement, trace, plan),
-        Command::Audit => said::tell(out, err, Part::Totals, trace, plan),
-        Command::Floor => said::tell(out, err, Part::Floor, trace, plan),
-        Command::Schedule => schedule(out, err, trace, plan),
-        _ => help(err),
-    }
+    told(&trace[..n], &plan[..m])
 }
 
 // The heading, a line for each request, and the totals; of a plan that the audit refuses, the refusal alone.
-fn schedule<O: Print, E: Print>(out: &O, err: &E, trace: &[u8], plan: &[u8]) -> bool {
-    if let Audited::Refused(_) = audit::audit(trace, plan) {
-        return said::tell(out, err, Part::Totals, trace, plan);
+fn schedule<O: Print>(out: &O, trace: &[u8], plan: &[u8]) -> io::Result<()> {
+    if audit::audit(trace, plan).is_err() {
+        return tell(out, Part::Totals, trace, plan);
     }
-    said::tell(out, err, Part::Heading, trace, plan)
-        && requests(out, err, trace, plan)
-        && said::tell(out, err, Part::Last, trace, plan)
-}
-
-fn requests<O: Print, E: Print>(out: &O, err: &E, trace: &[u8], plan: &[u8]) -> bool {
-    let n = trace::requests(trace);
-    let mut t: usize = 0;
-    while t < n {
-        if !said::tell(out, err, Part::Request(t), trace, plan) {
-            return false;
-        }
-        t += 1;
+    tell(out, Part::Heading, trace, plan)?;
+    for t in 0..trace::requests(trace) {
+        tell(out, Part::Request(t), trace, plan)?;
     }
-    true
+    tell(out, Part::Last, trace, plan)
 }
 
 // The command on two costs. What is no number has been said.
-fn on_costs<R: Env + Print, E: Print>(rt: &R, err: &E) -> bool {
-    let Number::Is(least) = words::read(rt, err, 2) else {
-        return false;
+fn on_costs<R: Env + Print, E: Print>(rt: &R, err: &E) -> io::Result<()> {
+    let Some(least) = words::read(rt, err, 2) else {
+        return Ok(());
     };
-    let Number::Is(measured) = words::read(rt, err, 3) else {
-        return false;
+    let Some(measured) = words::read(rt, err, 3) else {
+        return Ok(());
     };
-    said::ratio(rt, err, least, measured)
+    said::ratio(rt, least, measured)
 }
 
-fn help<E: Print>(err: &E) -> bool {
-    told(
-        err,
+fn help<E: Print>(err: &E) -> io::Result<()> {
+    err.write_all(
         b"glazepouch least TRACE             the least cost\n\
             glazepouch solve TRACE PLAN        a plan of least cost, written to the file PLAN\n\
             glazepouch judge TRACE PLAN        whether nothing allowed is cheaper than the plan\n\
@@ -113,12 +94,6 @@ fn help<E: Print>(err: &E) -> bool {
             glazepouch schedule TRACE PLAN     what each request pays and why, a line each\n\
             glazepouch chart TRACE PLAN        a picture of what is held when, as SVG\n\
             glazepouch ratio LEAST MEASURED    how far a measured cost is above the least\n",
-    ) && told(
-        err,
-        b"for example: glazepouch schedule samples/A1.trace samples/A1.plan\n",
-    )
-}
-
-fn told<E: Print>(err: &E, lines: &[u8]) -> bool {
-    err.write_all(lines).is_ok()
+    )?;
+    err.write_all(b"for example: glazepouch schedule samples/A1.trace samples/A1.plan\n")
 }

@@ -1,15 +1,16 @@
 // All that goes to standard output: each answer is laid into a page by a call that promises its bytes, and nothing but that page may
-// be printed. Each call answers whether the system took it; where it did not, the reason has been said on standard error.
+// be printed. Each call answers with the error of standard output where the system did not take it.
 ghost use Rattle.std.specs.Prelude.{◌≡◌};
 ghost use Rattle.pages.specs.Pages.{Lies};
 ghost use Rattle.sentences.specs.Sentences.{answer_page};
 ghost use Rattle.answers.specs.Answers.{rated_page};
-ghost use Rattle.solver.specs.Solve.{said};
+ghost use Rattle.model.specs.Refusals.{answered};
 ghost use Rattle.solver.proofs.Promise.{LeastOf};
 ghost use Rattle.glazepouch.specs.Printed.{page_of, least_page, Told};
 
+use model::Refusal;
 use sentences::{ROOM, shown};
-use solver::Solved;
+use std::io;
 
 // What can be printed of a trace and a plan.
 #[derive(Clone, Copy)]
@@ -23,10 +24,10 @@ pub enum Part {
 }
 
 // Prints one of them.
-pub fn tell<O: Print, E: Print>(out: &O, err: &E, asked: Part, trace: &[u8], plan: &[u8]) -> bool {
+pub fn tell<O: Print>(out: &O, asked: Part, trace: &[u8], plan: &[u8]) -> io::Result<()> {
     let mut page = [0u8; ROOM];
     let size = lay_part(asked, trace, plan, &mut page);
-    print_part(out, err, asked, trace, plan, shown(&page, size))
+    print_part(out, asked, trace, plan, shown(&page, size))
 }
 
 fn lay_part(asked: Part, trace: &[u8], plan: &[u8], page: &mut [u8; ROOM]) -> usize
@@ -43,68 +44,51 @@ fn lay_part(asked: Part, trace: &[u8], plan: &[u8], page: &mut [u8; ROOM]) -> us
 }
 
 // Trace and plan are not read, here and below: they are there so that the bytes can be asked to be their answer.
-fn print_part<O: Print, E: Print>(
+fn print_part<O: Print>(
     out: &O,
-    err: &E,
     asked: Part,
     trace: &[u8],
     plan: &[u8],
     bytes: &[u8],
-) -> bool
+) -> io::Result<()>
     requires { bytes.now ≡ page_of asked trace.now plan.now }
 {
-    print(out, err, bytes)
+    out.write_all(bytes)
 }
 
 // Prints what solve found of a trace.
-pub fn least<O: Print, E: Print>(out: &O, err: &E, trace: &[u8], found: Solved) -> bool
-    requires { LeastOf trace.now (said found) }
+pub fn least<O: Print>(out: &O, trace: &[u8], found: Result<u64, Refusal>) -> io::Result<()>
+    requires { LeastOf trace.now (answered found) }
 {
     let mut page = [0u8; ROOM];
     let size = lay_least(found, &mut page);
-    print_least(out, err, trace, shown(&page, size))
+    print_least(out, trace, shown(&page, size))
 }
 
-fn lay_least(found: Solved, page: &mut [u8; ROOM]) -> usize
-    ensures { Lies (answer_page 0 least_page (said found)) page.old result page.new }
+fn lay_least(found: Result<u64, Refusal>, page: &mut [u8; ROOM]) -> usize
+    ensures { Lies (answer_page 0 least_page (answered found)) page.old result page.new }
 {
     match found {
-        Solved::Least(cost) => sentences::lay(b"least @\n", &[cost], page),
-        Solved::Refused(r) => sentences::refusal(r, 0, page),
+        Ok(cost) => sentences::lay(b"least @\n", &[cost], page),
+        Err(r) => sentences::refusal(r, 0, page),
     }
 }
 
-fn print_least<O: Print, E: Print>(out: &O, err: &E, trace: &[u8], bytes: &[u8]) -> bool
+fn print_least<O: Print>(out: &O, trace: &[u8], bytes: &[u8]) -> io::Result<()>
     requires { Told trace.now bytes.now }
 {
-    print(out, err, bytes)
+    out.write_all(bytes)
 }
 
 // Prints how far a measured cost is above the least.
-pub fn ratio<O: Print, E: Print>(out: &O, err: &E, least: u64, measured: u64) -> bool {
+pub fn ratio<O: Print>(out: &O, least: u64, measured: u64) -> io::Result<()> {
     let mut page = [0u8; ROOM];
     let size = answers::rated(least, measured, &mut page);
-    print_ratio(out, err, least, measured, shown(&page, size))
+    print_ratio(out, least, measured, shown(&page, size))
 }
 
-fn print_ratio<O: Print, E: Print>(
-    out: &O,
-    err: &E,
-    least: u64,
-    measured: u64,
-    bytes: &[u8],
-) -> bool
+fn print_ratio<O: Print>(out: &O, least: u64, measured: u64, bytes: &[u8]) -> io::Result<()>
     requires { bytes.now ≡ rated_page least measured }
 {
-    print(out, err, bytes)
-}
-
-fn print<O: Print, E: Print>(out: &O, err: &E, bytes: &[u8]) -> bool {
-    match out.write_all(bytes) {
-        Ok(()) => true,
-        Err(error) => {
-            disk::fail(err, b"standard output", error);
-            false
-        }
-    }
+    out.write_all(bytes)
 }

@@ -1,6 +1,0 @@
--- Requests that are left.
-use Rattle.std.proofs.Common.{◌-◌}
-use Rattle.glazepouch.proofs.requests.Given as goal
-
-abbrev pub decreases-loop-t : goal.decreases-loop-t
-decreases-loop-t g l = l.n - l.t
