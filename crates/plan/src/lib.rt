@@ -94,7 +94,8 @@ pub fn rent(part: &[u8], t: usize) -> u64
     }
 }
 
-// The rents of a rents' part as numbers, as many as `out` has places for; the rest of `out` is kept.
+// The rents of a rents' part as numbers, as many as `out` has places for; the rest of `out` is kept. The part has four bytes to a
+// number, so that it is read at t as well.
 pub fn read_rents(part: &[u8], out: &mut [u32])
     ensures { out.new ≡ rents_into part.now out.old }
 {
