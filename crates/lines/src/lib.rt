@@ -1,4 +1,6 @@
 // The one line that a program prints as its answer, laid from the start of a lent page. Each call answers how long the line is.
+// A call takes the array and answers a length, although `pages::Page` has both: its clause `Lies` names the lent array, and says that the
+// whole line has room in it.
 #![tactic(auto)]
 
 ghost use Rattle.std.specs.Prelude.{◌≤◌, ◌≡◌, ◌++◌, length};
@@ -37,7 +39,7 @@ pub fn refused(r: Refusal, line: &mut [u8; ROOM]) -> usize
     refusal(r.number(), r.place(), line)
 }
 
-// `refused N at P` of two numbers.
+// `refused N at P` of two numbers. Refusal's Display prints the same, but to a formatter: the clause `Lies` names bytes in the lent array.
 pub fn refusal(number: u64, place: u64, line: &mut [u8; ROOM]) -> usize
     ensures { Lies (refused_line number place) line.old result line.new }
 {

@@ -1,4 +1,5 @@
 // Sentences, laid into a lent page: a text with its numbers, and each refusal in words.
+// A call takes the array and answers a length, although `pages::Page` has both: its clause `Laid`, `Cut` or `Lies` names the lent array.
 #![tactic(auto)]
 
 ghost use Rattle.std.specs.Prelude.{◌≡◌, ◌++◌, replicate};
