@@ -15,7 +15,7 @@ use Rattle.model.specs.Model.{Rules, Request, Trace, Contents}
 use Rattle.model.specs.Plans.{Flags, flags_in, may_flag, occupancy}
 use Rattle.model.specs.Numbers.{max_slots, max_requests, max_cost, max_rent, max_plan_cost}
 use Rattle.std.specs.Prelude.{Result, Ok, Err}
-use Rattle.model.specs.Refusals.{Tried, passes, refusal, row, next, refused, answer, answered}
+use Rattle.model.specs.Refusals.{Tried, passes, refusal, row, next, refused, answer, answered, said}
 use Rattle.model.specs.declared.Refusal.{Refusal}
 use Rattle.model.proofs.Links.{length-listed}
 use Rattle.trace.specs.TraceFile.{slots_at, requests_at, fill_at, kind_at, zero_at, cost_at, length_at, marked_trace, records_tried, trace_tried, trace_in}
@@ -195,6 +195,11 @@ answered_codable a {number = number} {place = place} (one {number = n} {place = 
 pub answer_coded : {A : Type 0} {t : Tried} (a : A) (r : Result A Refusal) → Small t → answered r ≡ answer t a → Coded r
 answer_coded a (Ok v) s e = tt
 answer_coded a (Err r) s e = answered_codable a s e
+
+-- and every call that answers no value
+pub said_coded : {t : Tried} (r : Result Unit Refusal) → Small t → said r ≡ t → Coded r
+said_coded (Ok v) s e = tt
+said_coded (Err r) s e = given_codable s e
 
 -- a code tells what the rows came to
 pub code_tells : {a b : Tried} → Small a → Small b → code_of_tried a ≡ code_of_tried b → a ≡ b

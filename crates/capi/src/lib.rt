@@ -2,7 +2,7 @@
 // the work is done, else the refusal's number + 256 * its place, and on a refusal leaves what is lent as it was.
 #![tactic(auto)]
 
-ghost use Rattle.std.specs.Prelude.{◌≡◌, ◌+◌, ◌*◌, length};
+ghost use Rattle.std.specs.Prelude.{◌≡◌, ◌+◌, ◌*◌, [], ◌∷◌, length};
 ghost use Rattle.model.specs.Refusals.{number_of, place_of, answered};
 ghost use Rattle.plan.specs.PlanFile.{section_tried};
 ghost use Rattle.audit.specs.Audit.{audit_of};
@@ -14,6 +14,7 @@ ghost use Rattle.capi.specs.Codes.{Codable, Coded, Solves, code_of_tried, code_o
 
 use model::Refusal;
 use ratio::Gap;
+use replay::Totals;
 
 // The code of a refusal: the C interface has one number for it.
 fn code(r: Refusal) -> u64
@@ -38,18 +39,19 @@ fn coded<T: Copy>(answer: Result<T, Refusal>, out: &mut T) -> u64
     }
 }
 
+// The four totals in the order of the C interface.
+fn listed(s: Totals) -> [u64; 4]
+    ensures { result ≡ s.total ∷ s.misses ∷ s.fills ∷ s.strikes ∷ [] }
+{
+    [s.total, s.misses, s.fills, s.strikes]
+}
+
 // Total cost, read misses, fills and write hits of a plan, in a list as the C interface has them. Refusals 1 to 17.
 pub fn gp_audit(trace: &[u8], plan: &[u8], totals: &mut [u64; 4]) -> u64
     ensures value { result ≡ code_of (audit_of trace.now plan.now) }
     ensures totals_after { totals.new ≡ totals_or (audit_of trace.now plan.now) totals.old }
 {
-    match audit::audit(trace, plan) {
-        Ok(s) => {
-            *totals = [s.total, s.misses, s.fills, s.strikes];
-            0
-        }
-        Err(r) => code(r),
-    }
+    coded(audit::audit(trace, plan).map(listed), totals)
 }
 
 // The cost at which a plan is accepted. Refusals 1 to 18.
@@ -84,18 +86,15 @@ pub fn gp_solve(trace: &[u8], buffer: &mut [u8], cost: &mut u64) -> u64
     coded(solver::solve(trace, buffer), cost)
 }
 
-// Whether the flags and the rents can be taken from a plan's bytes. Refusals 1 to 12.
+// Whether the flags and the rents can be taken from a plan's bytes: there is no value that goes out. Refusals 1 to 12.
 pub fn gp_section(trace: &[u8], plan: &[u8]) -> u64
     ensures { result ≡ code_of_tried (section_tried trace.now plan.now) }
 {
-    match plan::check(trace, plan) {
-        Ok(()) => 0,
-        Err(r) => code(r),
-    }
+    coded(plan::check(trace, plan), &mut ())
 }
 
 // The measured cost by the least: the kind is 0 for no cost, 1 for no ratio, 2 for a ratio, as the C interface numbers them. Refusals
-// 20, 21.
+// 20, 21. A gap goes to two lent values and a kind of gap leaves one of them, so `coded`, which has one, does not serve.
 pub fn gp_ratio(least: u64, measured: u64, kind: &mut u8, ratio: &mut f64) -> u64
     ensures value { result ≡ code_of (ratio_of least measured) }
     ensures kind_after { kind.new ≡ kind_or (ratio_of least measured) kind.old }

@@ -85,7 +85,7 @@ pub fn both(trace: &[u8], rents: &[u32], next: &[u16; Requests::MAX]) -> Pair
     }
 }
 
-// The one side less the other.
+// The one side less the other. Both fit by what is required: `i64::try_from` would make a Result of each that is never an Err.
 pub fn less(a: u64, b: u64) -> i64
     requires { (a < 4611686018427387904) × (b < 4611686018427387904) }
     ensures { result ≡ sub_ℕ a b }

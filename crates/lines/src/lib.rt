@@ -1,7 +1,9 @@
 // The one line that a program prints as its answer, laid from the start of a lent page. Each call answers how long the line is.
+// A call takes the array and answers a length, although `pages::Page` has both: its clause `Lies` names the lent array, and says that the
+// whole line has room in it.
 #![tactic(auto)]
 
-ghost use Rattle.std.specs.Prelude.{◌≤◌, ◌≡◌, ◌++◌, length, take};
+ghost use Rattle.std.specs.Prelude.{◌≤◌, ◌≡◌, ◌++◌, length};
 ghost use Rattle.model.specs.Refusals.{number_of, place_of};
 ghost use Rattle.pages.specs.Letters.{letters};
 ghost use Rattle.pages.specs.Pages.{Lies};
@@ -37,7 +39,7 @@ pub fn refused(r: Refusal, line: &mut [u8; ROOM]) -> usize
     refusal(r.number(), r.place(), line)
 }
 
-// `refused N at P` of two numbers.
+// `refused N at P` of two numbers. Refusal's Display prints the same, but to a formatter: the clause `Lies` names bytes in the lent array.
 pub fn refusal(number: u64, place: u64, line: &mut [u8; ROOM]) -> usize
     ensures { Lies (refused_line number place) line.old result line.new }
 {
@@ -51,20 +53,16 @@ pub fn refusal(number: u64, place: u64, line: &mut [u8; ROOM]) -> usize
 }
 
 // The line itself: the first bytes of the page, as many as a call answered.
-pub fn shown(line: &[u8; ROOM], size: usize) -> &[u8]
-    ensures { result.now ≡ take size line.now }
-{
-    pages::first(line, size)
-}
+pub use pages::first as shown;
 
 // A word and a cost.
 fn worded(word: &[u8], cost: u64, line: &mut [u8; ROOM]) -> usize
     requires { length word.now ≤ 12 }
     ensures { Lies (word.now ++ (decimal cost ++ letters "\n")) line.old result line.new }
 {
-    let mut answer = Page::new(line);
-    answer.bytes(word);
-    decimal::lay(&mut answer, cost);
-    answer.byte(b'\n');
-    answer.filled
+    let mut page = Page::new(line);
+    page.bytes(word);
+    decimal::lay(&mut page, cost);
+    page.byte(b'\n');
+    page.filled
 }

@@ -33,10 +33,6 @@ pub length-write : (p : Page) (bs : List ℕ) → length (bytes_in (write p bs))
 length-write p [] = refl
 length-write p (b ∷ bs) = length-write (put p b) bs ∙ length-put p b
 
--- pages that come to the same are equally long
-pub same_long : (p q : Page) (xs ys : List ℕ) → write p xs ≡ write q ys → length (bytes_in p) ≡ length (bytes_in q)
-same_long p q xs ys e = sym (length-write p xs) ∙ (ap (λ o. length (bytes_in o)) e ∙ length-write q ys)
-
 -- two answers that a page's equation permits are the same
 pub page_once : {p : Page} {r s : ℕ} {new new' : List ℕ} → filled r new ≡ p → filled s new' ≡ p → (r ≡ s) × (new ≡ new')
 page_once {r = r} {s} {new} {new'} a b =

@@ -51,7 +51,8 @@ impl Sound<'_, '_> {
         Ok(())
     }
 
-    // Row 15: no gap holds more items than there are slots. A kept item is counted in every gap of the keep.
+    // Row 15: no gap holds more items than there are slots. A kept item is counted in every gap of the keep. Schedule's `within` counts so
+    // too, but answers the count of one gap, where this answers the first gap that is crowded.
     fn room(&self) -> Result<(), Refusal>
         ensures { said result ≡ room_of self.now.trace.now self.now.kept.flags.now }
     {

@@ -1,4 +1,6 @@
 // A schedule of a plan: what each request pays and why, as numbers and as a line laid into a lent page.
+// A line's call takes the array and answers a length, although `pages::Page` has both: its clause `Lies` names the lent array.
+// `request` and `last` have each an arm for a refusal: `told(audit::audit(..), slots, page, |t, page| lay(..))` would be no shorter.
 #![tactic(auto)]
 
 mod numbers;

@@ -33,6 +33,7 @@ fn of_flags(trace: &[u8], kept: &Kept, t: usize, rent: u64) -> Step
     let write = trace::is_write(trace, t);
     let before = kept.held(t);
     let after = kept.flag(t);
+    // `paid_of` takes numbers of 32 bits, so that their sum fits; these two were read from four bytes.
     let cost = trace::cost(trace, t);
     let row = replay::row_of(write, before, after);
     let paid = replay::paid_of(row, cost as u32, trace::fill(trace) as u32);
@@ -51,13 +52,14 @@ fn of_flags(trace: &[u8], kept: &Kept, t: usize, rent: u64) -> Step
     }
 }
 
-// How many items the gap after request t holds. A kept item is counted in every gap of the keep.
+// How many items the gap after request t holds. A kept item is counted in every gap of the keep. Replay's row 15 counts so too, but
+// answers the first gap that is crowded, where this answers the count.
 fn within(trace: &[u8], kept: &Kept, t: usize) -> u64
     requires { Linked trace.now kept.now.flags.now kept.now.links.now.prev t }
     ensures { result ≡ occupancy (trace_in trace.now).reqs (named (trace_in trace.now) kept.now.flags.now) (suc t) }
 {
     let mut count: u64 = 0;
-    for s in 0..t + 1 {
+    for s in 0..=t {
         count = count + u64::from(kept.flag(s)) - u64::from(kept.held(s));
     }
     count

@@ -1,7 +1,8 @@
 // Sentences, laid into a lent page: a text with its numbers, and each refusal in words.
+// A call takes the array and answers a length, although `pages::Page` has both: its clause `Laid`, `Cut` or `Lies` names the lent array.
 #![tactic(auto)]
 
-ghost use Rattle.std.specs.Prelude.{◌≡◌, ◌++◌, replicate, take};
+ghost use Rattle.std.specs.Prelude.{◌≡◌, ◌++◌, replicate};
 ghost use Rattle.model.specs.Refusals.{number_of, place_of};
 ghost use Rattle.pages.specs.Pages.{Lies, Cut, write};
 ghost use Rattle.pages.specs.Lent.{laid};
@@ -90,11 +91,7 @@ pub fn sentence(number: u64, place: u64, slots: u64, page: &mut [u8; ROOM]) -> u
 }
 
 // What is laid: the first bytes of the page, as many as a call answered.
-pub fn shown(page: &[u8; ROOM], size: usize) -> &[u8]
-    ensures { result.now ≡ take size page.now }
-{
-    pages::first(page, size)
-}
+pub use pages::first as shown;
 
 // Refusal 15: more items in a gap than there are slots.
 fn crowded(gap: u64, slots: u64, page: &mut [u8; ROOM]) -> usize

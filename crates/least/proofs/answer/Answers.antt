@@ -9,4 +9,4 @@ pub print-requires : goal.print-requires
 print-requires g c =
     spoken_line c.args.trace.now (answered c.solve.result)
     (solve-answers c.args.trace.now (replicate 5137 0) _ _ (omega arith) c.solve.ensures)
-    c.lay-size.ensures c.shown.ensures
+    c.lay-size.ensures c.first.ensures

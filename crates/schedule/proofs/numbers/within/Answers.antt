@@ -15,3 +15,7 @@ loop-s-preserved c =
 
 pub returns : goal.returns
 returns c = counting_ends c.loop-s.invariant (omega arith)
+
+pub returns-2 : goal.returns-2
+returns-2 c =
+    counting_ends (counting_on c.requires c.loop-s.invariant (omega arith) c.from.ensures c.flag.ensures c.from-in-loop-s.ensures c.held.ensures) (omega arith)
