@@ -13,7 +13,8 @@ mod items;
 mod turn;
 
 // The two lists of a trace of n requests: their first n places have each request's next and previous request of the same item,
-// counted from 0, or n for none.
+// counted from 0, or n for none: `Filled` has numbers, and no `None`. Two lists and no list of pairs, since each is read alone, and
+// `Filled` speaks of each.
 #[derive(Drop)]
 pub struct Links {
     pub next: [u16; Requests::MAX],
