@@ -11,6 +11,7 @@ pub fn read(trace: &[u8], n: usize) -> [u16; Requests::MAX]
     ensures { Read trace.now result n }
 {
     let mut items = [0u16; Requests::MAX];
+    // A range and no iterator: the trace is read at t too.
     for t in 0..n {
         items[t] = trace::item(trace, t) as u16;
     }
