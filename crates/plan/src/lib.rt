@@ -4,7 +4,8 @@
 
 ghost use Rattle.std.specs.Prelude.{◌≡◌, ◌+◌, ◌<◌, get_or};
 ghost use Rattle.model.specs.Refusals.{said};
-ghost use Rattle.plan.specs.PlanFile.{stated_at, rent_in, section_tried, flags_of, rents_of, rents_tried};
+ghost use Rattle.trace.specs.TraceFile.{requests_at};
+ghost use Rattle.plan.specs.PlanFile.{length_of, shape_of, stated_at, rent_in, section_tried, flags_of, rents_of, rents_tried};
 ghost use Rattle.plan.specs.Reading.{rents_into};
 
 use model::{Refusal, Rent, Requests};
@@ -26,7 +27,14 @@ pub fn check(trace: &[u8], plan: &[u8]) -> Result<(), Refusal>
     ensures { said result ≡ section_tried trace.now plan.now }
 {
     trace::check(trace)?;
-    rows::tried(trace::requests(trace), plan)
+    rows::tried(trace, plan)
+}
+
+// How long a plan for the trace is.
+pub fn size(trace: &[u8]) -> usize
+    ensures { result ≡ length_of (shape_of (requests_at trace.now)) }
+{
+    HEAD + (1 + RENT) * trace::requests(trace)
 }
 
 // The flags, a byte each: a part of the plan, and the empty part with a refusal.
@@ -43,7 +51,8 @@ pub fn flags<'a>(trace: &[u8], plan: &'a [u8]) -> &'a [u8]
     }
 }
 
-// The rents, four bytes each: a part of the plan, and the empty part with a refusal.
+// The rents, four bytes each: a part of the plan, and the empty part with a refusal. One function for both parts is no plainer: it
+// would be handed where a part begins and ends, and owe that the plan reaches there.
 pub fn rents<'a>(trace: &[u8], plan: &'a [u8]) -> &'a [u8]
     ensures { result.now ≡ rents_of trace.now plan.now }
 {
@@ -63,7 +72,7 @@ pub fn stated_cost(plan: &[u8]) -> u64
     fields::number_at::<8>(plan, 8)
 }
 
-// The flag of request t, counted from 0.
+// The flag of request t, counted from 0. Of a plan that is not checked it may be any byte, so it is no bool.
 pub fn flag(plan: &[u8], t: usize) -> u64
     ensures { (result ≡ get_or plan.now (16 + t) 0) × (result < 256) }
 {

@@ -103,19 +103,17 @@ module _ (tr flags rents : List ℕ) (room : ℕ) where
       replays : Replays tr flags
       replays = replay_passes tr flags (answer_fine (replay_tried tr flags) (totals_of (trace_in tr) flags) totals done).0
 
-      pub room-off : (number place : ℕ) → refusal number place ≡ next (rents_tried 0 rents) (buffer_tried (length rents) room)
+      pub room-off : (number place : ℕ) → refusal number place ≡ next (rents_tried 0 rents) (buffer_tried (requests_at tr) room)
           → refused number place ≡ write_of tr flags rents room
       unfolding write_tried
       room-off number place h =
-          let last : refusal number place ≡ next (rents_tried 0 rents) (buffer_tried (requests_at tr) room) = rw count at h in
-          rw (replays.trace, eq-eqb (length flags) (requests_at tr) replays.count, eq-eqb (length rents) (requests_at tr) count, replays.rows, ← last)
+          rw (replays.trace, eq-eqb (length flags) (requests_at tr) replays.count, eq-eqb (length rents) (requests_at tr) count, replays.rows, ← h)
 
-      pub write_done : passes ≡ next (rents_tried 0 rents) (buffer_tried (length rents) room) → fine totals.total ≡ write_of tr flags rents room
+      pub write_done : passes ≡ next (rents_tried 0 rents) (buffer_tried (requests_at tr) room) → fine totals.total ≡ write_of tr flags rents room
       unfolding write_tried
       write_done h =
           let e = (answer_fine (replay_tried tr flags) (totals_of (trace_in tr) flags) totals done).1 in
-          let last : passes ≡ next (rents_tried 0 rents) (buffer_tried (requests_at tr) room) = rw count at h in
-          rw (replays.trace, eq-eqb (length flags) (requests_at tr) replays.count, eq-eqb (length rents) (requests_at tr) count, replays.rows, ← last)
+          rw (replays.trace, eq-eqb (length flags) (requests_at tr) replays.count, eq-eqb (length rents) (requests_at tr) count, replays.rows, ← h)
           (ap (λ (s : Totals). fine s.total) e)
 
 -- ---- what the buffer then holds
