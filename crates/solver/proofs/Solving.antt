@@ -1,13 +1,12 @@
 -- The rows of a solve, and what its calls answer and lay, as its promise has it. Assumes nothing.
 use mathlib.Core.Path.{◌≡◌, refl, ◌∙◌, ap}
-use Prim.Native.Nat.{ℕ, ◌+◌, ◌*◌, ◌≤◌, ◌<◌}
+use Prim.Native.Nat.{ℕ, ◌≤◌, ◌<◌}
 use native.Mathlib.Omega.{arith}
 use mathlib.Core.Bool.{Bool, true, false}
 use mathlib.Core.List.{List}
 use lib.Dec.{ltb}
 use lib.ListN.{length}
 use borrow.Author.Tests.{lt-ltb, le-ltb}
-use Rattle.model.specs.Numbers.{max_requests}
 use Rattle.std.proofs.Common.{Result, Ok, Err}
 use Rattle.model.specs.Refusals.{passes, refusal, row, number_of, place_of}
 use Rattle.model.specs.declared.Refusal.{Refusal}
@@ -30,16 +29,16 @@ module _ (trace : List ℕ) (room : ℕ) where
   tried_refused number place e = rw e
 
   module _ (ok : trace_tried trace ≡ passes) where
-    tried-fits : 16 + 5 * requests_at trace ≤ room → solve_tried trace room ≡ passes
+    tried-fits : length_of (shape_of (requests_at trace)) ≤ room → solve_tried trace room ≡ passes
     unfolding solve_tried
     tried-fits l =
-        let e : ltb room (length_of (shape_of (requests_at trace))) ≡ false = le-ltb room (16 + requests_at trace + 4 * requests_at trace) (omega arith) in
+        let e : ltb room (length_of (shape_of (requests_at trace))) ≡ false = le-ltb room (length_of (shape_of (requests_at trace))) l in
         rw ok (ap (λ (b : Bool). row b 19 0 passes) e)
 
-    tried-short : room < 16 + 5 * requests_at trace → solve_tried trace room ≡ refusal 19 0
+    tried-short : room < length_of (shape_of (requests_at trace)) → solve_tried trace room ≡ refusal 19 0
     unfolding solve_tried
     tried-short l =
-        let e : ltb room (length_of (shape_of (requests_at trace))) ≡ true = lt-ltb room (16 + requests_at trace + 4 * requests_at trace) (omega arith) in
+        let e : ltb room (length_of (shape_of (requests_at trace))) ≡ true = lt-ltb room (length_of (shape_of (requests_at trace))) l in
         rw ok (ap (λ (b : Bool). row b 19 0 passes) e)
 
 -- ---- a trace that is refused
@@ -62,15 +61,12 @@ module _ {trace from₀ charges₀ worth₀ from charges worth : List ℕ} {h : 
   pub opened_header : h ≡ header_in trace
   opened_header = (answer_fine (trace_tried trace) (header_in trace) h f.answer).1
 
-  pub opened_few : h.requests ≤ max_requests
-  opened_few = rw counted (sound_trace trace passed).requests
-
   module _ (buffer : List ℕ) where
     -- a buffer that is too short is refused
-    pub short-permitted : length buffer < 16 + 5 * h.requests → Promise trace buffer (Err BufferTooShort) buffer
-    short-permitted l = rw (tried-short trace (length buffer) passed (rw counted at l)) (refl, refl)
+    pub short-permitted : length buffer < length_of (shape_of (requests_at trace)) → Promise trace buffer (Err BufferTooShort) buffer
+    short-permitted l = rw (tried-short trace (length buffer) passed l) (refl, refl)
 
-    module _ (room : 16 + 5 * h.requests ≤ length buffer) where
+    module _ (room : length_of (shape_of (requests_at trace)) ≤ length buffer) where
       -- into any other the plan can be written
       pub opened-ready : length worth₀ ≡ 2050 → Ready trace from charges worth buffer
       opened-ready long = record {
@@ -80,9 +76,9 @@ module _ {trace from₀ charges₀ worth₀ from charges worth : List ℕ} {h : 
         worth₀ = worth₀;
         lists = f.sound passed;
         worth_long = ((f.sound passed).started.told (sound_trace trace passed).requests).long ∙ long;
-        room = omega (arith, counted);
+        room = omega arith;
       }
 
       -- and an accepted plan is what is promised
       pub accepted-permitted : {r : Result ℕ Refusal} {after : List ℕ} → Accepted trace buffer r after → Promise trace buffer r after
-      accepted-permitted a = rw (tried-fits trace (length buffer) passed (rw counted at room)) a
+      accepted-permitted a = rw (tried-fits trace (length buffer) passed room) a

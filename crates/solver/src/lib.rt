@@ -26,7 +26,7 @@ pub fn solve(trace: &[u8], buffer: &mut [u8]) -> Result<u64, Refusal>
         flags: [0; Requests::MAX],
     };
     let header = begin(trace, &mut from, &mut charges, &mut slots.worth)?;
-    if buffer.len() < 16 + 5 * header.requests {
+    if buffer.len() < plan::size(trace) {
         return Err(Refusal::BufferTooShort);
     }
     let lists = Lists {
