@@ -1,7 +1,6 @@
 -- The rows of a solve, and what its calls answer and lay, as its promise has it. Assumes nothing.
-use mathlib.Core.Path.{◌≡◌, refl, ◌∙◌, ap}
+use mathlib.Core.Path.{◌≡◌, refl, ap}
 use Prim.Native.Nat.{ℕ, ◌≤◌, ◌<◌}
-use native.Mathlib.Omega.{arith}
 use mathlib.Core.Bool.{Bool, true, false}
 use mathlib.Core.List.{List}
 use lib.Dec.{ltb}
@@ -15,10 +14,8 @@ use Rattle.model.proofs.Refusals.{answer_fine, answer_refused}
 use Rattle.trace.specs.TraceFile.{requests_at, trace_tried}
 use Rattle.trace.specs.Answers.{header_in}
 use Rattle.trace.specs.declared.Header.{Header}
-use Rattle.trace.proofs.Sound.{sound_trace}
 use Rattle.plan.specs.PlanFile.{shape_of, length_of}
 use Rattle.opening.specs.Opened.{Opened}
-use Rattle.steps.specs.Ready.{Ready}
 use Rattle.solver.specs.Solve.{solve_tried, Accepted, Promise}
 
 -- ---- rows
@@ -55,30 +52,12 @@ module _ {trace from₀ charges₀ worth₀ from charges worth : List ℕ} {h : 
   passed : trace_tried trace ≡ passes
   passed = (answer_fine (trace_tried trace) (header_in trace) h f.answer).0
 
-  counted : h.requests ≡ requests_at trace
-  counted = ap (λ (x : Header). x.requests) (answer_fine (trace_tried trace) (header_in trace) h f.answer).1
-
-  pub opened_header : h ≡ header_in trace
-  opened_header = (answer_fine (trace_tried trace) (header_in trace) h f.answer).1
-
   module _ (buffer : List ℕ) where
     -- a buffer that is too short is refused
     pub short-permitted : length buffer < length_of (shape_of (requests_at trace)) → Promise trace buffer (Err BufferTooShort) buffer
     short-permitted l = rw (tried-short trace (length buffer) passed l) (refl, refl)
 
     module _ (room : length_of (shape_of (requests_at trace)) ≤ length buffer) where
-      -- into any other the plan can be written
-      pub opened-ready : length worth₀ ≡ 2050 → Ready trace from charges worth buffer
-      opened-ready long = record {
-        sound = passed;
-        from₀ = from₀;
-        charges₀ = charges₀;
-        worth₀ = worth₀;
-        lists = f.sound passed;
-        worth_long = ((f.sound passed).started.told (sound_trace trace passed).requests).long ∙ long;
-        room = omega arith;
-      }
-
       -- and an accepted plan is what is promised
       pub accepted-permitted : {r : Result ℕ Refusal} {after : List ℕ} → Accepted trace buffer r after → Promise trace buffer r after
       accepted-permitted a = rw (tried-fits trace (length buffer) passed room) a
