@@ -8,7 +8,6 @@ ghost use Rattle.steps.specs.Search.{ways_by, Runs, Graph, Finds};
 use frontier::Frontier;
 
 // The distances of a search that has not begun. One search must not colour the next: every node is unreached.
-#[inline(always)]
 pub fn fresh() -> [u32; Frontier::MAX]
     ensures { result ≡ replicate 2050 far }
 {
