@@ -44,9 +44,8 @@ pub fn charges(trace: &[u8], charges: &mut [u32; Requests::MAX])
 {
     let n = trace::requests(trace);
     if n <= Requests::MAX {
-        // A range and no iterator: the trace is read at t too.
-        for t in 0..n {
-            charges[t] = paid::charge(trace, t);
+        for (t, charge) in charges[..n].iter_mut().enumerate() {
+            *charge = paid::charge(trace, t);
         }
     }
 }
