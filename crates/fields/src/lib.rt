@@ -13,7 +13,6 @@ pub fn byte_at(s: &[u8], at: usize) -> u64
 }
 
 // The number in K bytes, or in eight where K is more.
-#[inline(always)]
 pub fn number_at<const K: usize>(s: &[u8], at: usize) -> u64
     ensures { (result ≡ num_at (min K 8) at s.now) × (result < 256 ^ min K 8) }
 {

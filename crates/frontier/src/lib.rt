@@ -5,10 +5,13 @@
 ghost use Rattle.std.specs.Prelude.{◌≡◌, ◌≤◌, length, get_or, take};
 ghost use Rattle.frontier.specs.Frontier.{desk_of, offered, beyond, nearest, those, written};
 
+use model::Requests;
+
 // How far off each node is, where the way goes on from it, and the two lists with how many nodes stand in each. The fields may hold
 // anything: what is promised of an offer and of refilling is promised of all that they hold. The two numbers stand first, since the
-// compiler then sees that no store into a list changes them. A struct for each list with its number was tried, and solving took 2 to 4
-// in a hundred longer than with numbers that no list stands beside; in this order it takes no longer.
+// compiler then sees that no store into a list changes them. A struct for each list with its number was tried, and misses the bar of
+// gp_solve's time at n = 1,024 and w = 64, the fastest of 41 runs: it took 2 to 4 % longer than with numbers apart from all lists, and
+// this order takes no longer.
 #[derive(Drop)]
 pub struct Frontier {
     pub top: usize,
@@ -27,7 +30,8 @@ fn distance(dist: &[u32], v: u16) -> u64
 }
 
 // Drops the nodes that are no further off than `current` from those that wait, and says how many there are then, and the least of their
-// distances.
+// distances. What is kept moves within the one list, so its places are counted by hand: an iterator would hold the list while it is
+// stored to, and the project has no heap for a second one.
 fn sift(dist: &[u32], list: &mut [u16; Frontier::MAX], waiting: usize, current: u64) -> (usize, u64)
     ensures list_after { list.new ≡ written (beyond dist.now current (take waiting list.old)) list.old }
     ensures waiting_value { result.0 ≡ length (beyond dist.now current (take waiting list.old)) }
@@ -65,11 +69,11 @@ fn gather(dist: &[u32], list: &[u16], low: u64, stack: &mut [u16; Frontier::MAX]
 }
 
 impl Frontier {
-    // How many nodes there can be.
-    pub const MAX: usize = 2050;
+    // How many nodes there can be: a point before each request, the last point, and each request.
+    pub const MAX: usize = 2 * Requests::MAX + 2;
 
     // The distance of an unreached node: its bytes are equal, so that making an array of it is one fill of memory.
-    pub const FAR: u32 = 4294967295;
+    pub const FAR: u32 = u32::MAX;
 
     // Offers node v the distance e by way of u. Most offers change nothing, so that is tested first.
     #[tactic(auto, unfolding(crate::specs::Frontier::offered))]

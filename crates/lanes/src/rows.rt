@@ -24,7 +24,8 @@ fn place(kept: &Kept<'_>, busy: &[u8], rows: &[u8], t: usize) -> usize
     }
 }
 
-// The row of each request. There is one row more than there can be slots, so that one is always free.
+// The row of each request, and 0 where its item is not kept: `Laned` has numbers, and no `None`. There is one row more than there can
+// be slots, so that one is always free.
 pub fn draw(trace: &[u8], kept: &Kept<'_>, rows: &mut [u8])
     requires { Ready trace.now kept.now.flags.now kept.now.links.now.prev rows.old }
     ensures { Laying trace.now kept.now.flags.now rows.old rows.new }

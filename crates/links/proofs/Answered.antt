@@ -3,7 +3,8 @@ use mathlib.Core.Path.{◌≡◌, sym, ◌∙◌, ap}
 use Prim.Native.Nat.{ℕ, ◌≤◌, ◌<◌}
 use native.Mathlib.Omega.{arith}
 use mathlib.Core.List.{List, ◌++◌}
-use lib.ListN.{length, get_or, drop, get_or-append}
+use lib.ListN.{length, get_or, take, drop, get_or-append}
+use lib.Seq.{get_or-take}
 use Rattle.model.specs.Numbers.{max_requests}
 use Rattle.model.specs.Model.{Request}
 use Rattle.model.specs.Plans.{request_at}
@@ -19,14 +20,18 @@ use Rattle.trace.specs.declared.Header.{Header}
 use Rattle.trace.proofs.Sound.{sound_trace, reqs_length, req_at, check_unique}
 use Rattle.links.specs.Linked.{nexts, prevs, laid, nexts_in, prevs_in}
 use Rattle.links.specs.Promise.{Filled}
-use Rattle.links.specs.Chains.{Read, Nexts, NextsLaid, Cleared, Single, Turned}
-use Rattle.links.proofs.Fills.{front, nexts-are, next-of-one, prevs-are}
+use Rattle.links.specs.Chains.{Read, Nexts, Undoes, Laid}
+use Rattle.links.proofs.Fills.{front, nexts-are, prevs-are}
 
 -- what is laid down of n numbers
 laid_front : (t : Tried) (n : ℕ) (new old : List ℕ) → t ≡ passes → length new ≡ n → laid t new old ≡ new ++ drop n old
 laid_front t n new old e l = rw (e, l)
 
 -- ---- a sound one
+
+-- the items are read in the part of the list that is n long
+pub read_front : {tr items : List ℕ} (n : ℕ) → Read tr items n → Read tr (take n items) n
+read_front {tr} {items} n r = record { on = λ t l. get_or-take n items t 0 l ∙ r.on t l }
 
 module _ (tr : List ℕ) (h : Header) (e : answered (Ok h) ≡ check_of tr) where
   passed : trace_tried tr ≡ passes
@@ -45,33 +50,25 @@ module _ (tr : List ℕ) (h : Header) (e : answered (Ok h) ≡ check_of tr) wher
     same : (t : ℕ) → t < h.requests → get_or items t 0 ≡ (request_at (trace_in tr).reqs t).item
     same t l = read.on t l ∙ sym (ap (λ (x : Request). x.item) (req_at tr t (omega (arith, counted))))
 
-    pub single : {next prev prev' : List ℕ} → Nexts items next h.requests 0 → Cleared h.requests prev prev'
-        → h.requests ≤ length next → h.requests ≤ length prev' → Single next prev' h.requests
-    single {next} w c a b = record {
-      few = few_requests;
-      all_next = a;
-      all_prev = b;
-      none = c.none;
-      one = next-of-one (trace_in tr).reqs items h.requests all same next w;
-    }
-
-    pub filled-sound : {next prev next' chain clear prev' : List ℕ} → NextsLaid items h.requests next prev next' chain
-        → Cleared h.requests chain clear → Turned h.requests next' clear prev'
-        → h.requests ≤ length next' → h.requests ≤ length prev' → Filled tr next prev (Ok h) next' prev'
-    filled-sound {next} {prev} {next'} {chain} {clear} {prev'} l c t a b =
+    pub filled-sound : {next prev next' prev' : List ℕ} → length items ≡ h.requests → Laid items next prev next' prev'
+        → Filled tr next prev (Ok h) next' prev'
+    filled-sound {next} {prev} {next'} {prev'} count l =
         let rs = (trace_in tr).reqs in
         let n = h.requests in
         let long-nexts = length-listed (next_of rs) (length rs) 0 ∙ all in
         let long-prevs = length-listed (prev_of rs) (length rs) 0 ∙ all in
-        let f : next' ≡ nexts rs ++ drop n next =
-        rw all (front (next_of rs) n next' next a (nexts-are rs items n all same next' l.nexts) l.kept) in
-        let g : prev' ≡ prevs rs ++ drop n prev =
-        rw all (front (prev_of rs) n prev' prev b (prevs-are rs items n all same next' l.nexts prev' t.undoes)
-        (t.kept ∙ c.kept ∙ l.rest)) in
+        let w : Nexts items l.front_next n 0 = rw (← count) l.nexts in
+        let u : Undoes l.front_next l.front_prev n n = rw (← count) l.prevs in
+        let f : l.front_next ≡ nexts rs =
+        rw all (front (next_of rs) n l.front_next (l.all_next ∙ count) (nexts-are rs items n all same l.front_next w)) in
+        let g : l.front_prev ≡ prevs rs =
+        rw all (front (prev_of rs) n l.front_prev (l.all_prev ∙ count) (prevs-are rs items n all same l.front_next w l.front_prev u)) in
+        let x : next' ≡ nexts rs ++ drop n next = rw (← f, ← count) l.rest_next in
+        let y : prev' ≡ prevs rs ++ drop n prev = rw (← g, ← count) l.rest_prev in
         record {
           answer = e;
-          nexts = f ∙ sym (laid_front (trace_tried tr) n (nexts rs) next passed long-nexts);
-          prevs = g ∙ sym (laid_front (trace_tried tr) n (prevs rs) prev passed long-prevs);
+          nexts = x ∙ sym (laid_front (trace_tried tr) n (nexts rs) next passed long-nexts);
+          prevs = y ∙ sym (laid_front (trace_tried tr) n (prevs rs) prev passed long-prevs);
         }
 
 -- ---- what a caller finds in the lists of a sound trace

@@ -5,8 +5,8 @@ use native.Mathlib.Omega.{arith}
 use native.Mathlib.Nat.{mod-lt}
 use native.Mathlib.Decide.{dec_lt}
 use mathlib.Core.List.{List}
-use lib.ListN.{length, get_or, set, drop, replicate, length-set, length-replicate, get_or-replicate}
-use lib.Seq.{get_or-set_same, get_or-set_other, drop-set-lt}
+use lib.ListN.{length, get_or, set, replicate, length-set, length-replicate, get_or-replicate}
+use lib.Seq.{get_or-set_same, get_or-set_other}
 use lib.Dec.{eqb}
 use borrow.Author.Tests.{eqb-true, eqb-false}
 use Rattle.model.specs.Numbers.{max_requests}
@@ -21,7 +21,7 @@ pub record Walking (items : List ℕ) (n t item j : ℕ) : Type 0 where
   pub has : j < n → bucket_in items n j ≡ bucket_in items n t
   pub none : (s : ℕ) → suc t ≤ s → s < j → item_in items s ≡ item_in items t → ⊥
 
--- the requests from t on are chained and have their next requests; past n the lent lists are kept
+-- the requests from t on are chained and have their next requests
 pub record Linking (items next₀ chain₀ head next chain : List ℕ) (n t : ℕ) : Type 0 where
   pub upto : t ≤ n
   pub long_head : length head ≡ max_requests
@@ -30,8 +30,6 @@ pub record Linking (items next₀ chain₀ head next chain : List ℕ) (n t : �
   pub heads : Heads items head n t
   pub chained : Chained items chain n t
   pub nexts : Nexts items next n t
-  pub kept : drop n next ≡ drop n next₀
-  pub rest : drop n chain ≡ drop n chain₀
 
 module _ {n t : ℕ} where
   -- a key's first request from t on, once t is looked at
@@ -71,8 +69,6 @@ link_starts {items} {next} {chain} {n} room = record {
   };
   chained = record { on = λ s l m. absurd (omega arith) };
   nexts = record { on = λ s l m. absurd (omega arith) };
-  kept = refl;
-  rest = refl;
 }
 
 module _ {items next₀ chain₀ head next chain : List ℕ} {n t : ℕ} (room : Room items next₀ chain₀ n)
@@ -119,8 +115,6 @@ module _ {items next₀ chain₀ head next chain : List ℕ} {n t : ℕ} (room :
             | no a ↦ let q : s ≡ t = omega arith in rw (q, get_or-set_same next t m 0 (omega arith)) f
           ];
         };
-        kept = drop-set-lt n next t m l ∙ w.kept;
-        rest = drop-set-lt n chain t (get_or head b 0) l ∙ w.rest;
       }
 
 -- a request more is left to look at

@@ -1,28 +1,41 @@
 -- The lists are filled: what stands in them is each request's next and previous request. Assumes nothing.
-use mathlib.Core.Path.{◌≡◌, refl, sym, ◌∙◌, ap}
+use mathlib.Core.Path.{◌≡◌, sym, ◌∙◌, ap}
 use mathlib.Core.Logic.{⊎_elim}
-use Prim.Native.Nat.{ℕ, suc, ◌≤◌, ◌<◌}
+use Prim.Native.Nat.{ℕ, suc, ◌<◌}
 use native.Mathlib.Omega.{arith}
 use native.Mathlib.Decide.{dec_lt}
-use mathlib.Core.List.{List, ◌++◌}
-use lib.ListN.{length, get_or, take, drop, take-append-drop}
-use lib.Seq.{length-take-le, get_or-take, ext_get_or}
+use mathlib.Core.List.{List}
+use lib.ListN.{length, get_or}
+use lib.Seq.{ext_get_or}
 use Rattle.model.specs.Model.{Request}
 use Rattle.model.specs.Plans.{request_at}
 use Rattle.model.specs.Links.{next_of, prev_of, listed}
 use Rattle.model.proofs.Links.{is_next, prev_is, prev_of_next, next_of_prev, length-listed, get_d_listed}
 use Rattle.links.specs.Chains.{First, item_in, Nexts, Undoes}
 
--- a list whose first n places have f's values, and which is kept past n
-pub front : (f : ℕ → ℕ) (n : ℕ) (new old : List ℕ) → n ≤ length new → ((t : ℕ) → t < n → get_or new t 0 ≡ f t)
-    → drop n new ≡ drop n old → new ≡ listed f n 0 ++ drop n old
-front f n new old l on kept =
-    let long : length (take n new) ≡ n = length-take-le n new l in
-    let e : take n new ≡ listed f n 0 =
-    ext_get_or 0 (take n new) (listed f n 0) (long ∙ sym (length-listed f n 0))
-    (λ i h. let m : i < n = omega arith in
-    get_or-take n new i 0 m ∙ on i m ∙ sym (get_d_listed f n 0 i 0 m ∙ ap f (omega arith))) in
-    sym (take-append-drop n new) ∙ (rw (e, kept) refl)
+-- a list of n places that have f's values
+pub front : (f : ℕ → ℕ) (n : ℕ) (new : List ℕ) → length new ≡ n → ((t : ℕ) → t < n → get_or new t 0 ≡ f t) → new ≡ listed f n 0
+front f n new long on =
+    ext_get_or 0 new (listed f n 0) (long ∙ sym (length-listed f n 0))
+    (λ i h. let m : i < n = omega arith in on i m ∙ sym (get_d_listed f n 0 i 0 m ∙ ap f (omega arith)))
+
+module _ (items next : List ℕ) (n : ℕ) (w : Nexts items next n 0) where
+  passed-over : (s t : ℕ) → s < t → t < n → get_or next s 0 ≡ get_or next t 0 → get_or next t 0 < n → ⊥
+  passed-over s t l b e m =
+      let f = w.on s (omega arith) (omega arith) in
+      let g = w.on t (omega arith) b in
+      f.none t l (omega (arith, g.from)) (sym (g.has m) ∙ sym (ap (item_in items) e) ∙ f.has (omega arith))
+
+  -- no request is the next of two
+  pub next-of-one : (s t : ℕ) → s < n → t < n → get_or next s 0 ≡ get_or next t 0 → get_or next t 0 < n → s ≡ t
+  next-of-one s t a b e m =
+      elim (dec_lt s t) [
+        | yes y ↦ absurd (passed-over s t y b e m)
+        | no y ↦ elim (dec_lt t s) [
+          | yes z ↦ absurd (passed-over t s z a (sym e) (omega arith))
+          | no z ↦ omega arith
+        ]
+      ]
 
 module _ (rs : List Request) (items : List ℕ) (n : ℕ) (all : length rs ≡ n)
     (same : (t : ℕ) → t < n → item_in items t ≡ (request_at rs t).item) where
@@ -42,9 +55,6 @@ module _ (rs : List Request) (items : List ℕ) (n : ℕ) (all : length rs ≡ n
     -- what the next request of t undoes
     undone : (t : ℕ) → t < n → get_or next t 0 < n → prev_of rs (get_or next t 0) ≡ t
     undone t l m = let e = nexts-are t l in rw e (prev_of_next rs t (omega arith))
-
-    pub next-of-one : (s t : ℕ) → s < n → t < n → get_or next s 0 ≡ get_or next t 0 → get_or next t 0 < n → s ≡ t
-    next-of-one s t a b e l = sym (undone s a (omega arith)) ∙ ap (prev_of rs) e ∙ undone t b l
 
     pub prevs-are : (prev : List ℕ) → Undoes next prev n n → (t : ℕ) → t < n → get_or prev t 0 ≡ prev_of rs t
     prevs-are prev u t l =

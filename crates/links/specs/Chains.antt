@@ -1,7 +1,7 @@
 -- What the crate's own functions promise one another while the links are found, by chains of the requests whose items are equal modulo n.
 -- The promise of `fill` cites none of it.
 -- Assumes nothing.
-use Rattle.std.specs.Prelude.{◌≡◌, ℕ, suc, ◌≤◌, ◌<◌, ◌%◌, List, ◌⊎◌, length, get_or, drop}
+use Rattle.std.specs.Prelude.{◌≡◌, ℕ, suc, ◌≤◌, ◌<◌, ◌%◌, List, ◌⊎◌, ◌++◌, length, get_or, drop}
 use Rattle.model.specs.Numbers.{max_requests}
 use Rattle.trace.specs.TraceFile.{item_at}
 
@@ -35,35 +35,20 @@ pub record Heads (items head : List ℕ) (n t : ℕ) : Type 0 where
 -- the lists have room for n requests
 pub record Room (items next chain : List ℕ) (n : ℕ) : Type 0 where
   pub few : n ≤ max_requests
-  pub all_items : n ≤ length items
   pub all_next : n ≤ length next
   pub all_chain : n ≤ length chain
 
 -- where the walk for the next request of t may start
 pub record Ready (items chain : List ℕ) (n t start : ℕ) : Type 0 where
-  pub all_items : n ≤ length items
   pub all_chain : n ≤ length chain
   pub here : t < n
   pub first : First (bucket_in items n) n (bucket_in items n t) (suc t) start
   pub chained : Chained items chain n (suc t)
 
--- the next requests stand in next, and past n the two lists are kept
-pub record NextsLaid (items : List ℕ) (n : ℕ) (next chain next' chain' : List ℕ) : Type 0 where
-  pub nexts : Nexts items next' n 0
-  pub kept : drop n next' ≡ drop n next
-  pub rest : drop n chain' ≡ drop n chain
-
--- the first n places have none, and past n the list is kept
-pub record Cleared (n : ℕ) (prev prev' : List ℕ) : Type 0 where
-  pub none : (s : ℕ) → s < n → get_or prev' s 0 ≡ n
-  pub kept : drop n prev' ≡ drop n prev
-
 -- no request is the next of two
 pub record Single (next prev : List ℕ) (n : ℕ) : Type 0 where
   pub few : n ≤ max_requests
-  pub all_next : n ≤ length next
   pub all_prev : n ≤ length prev
-  pub none : (s : ℕ) → s < n → get_or prev s 0 ≡ n
   pub one : (s t : ℕ) → s < n → t < n → get_or next s 0 ≡ get_or next t 0 → get_or next t 0 < n → s ≡ t
 
 -- prev undoes next for the requests below t, and has n where there is nothing to undo
@@ -71,10 +56,16 @@ pub record Undoes (next prev : List ℕ) (n t : ℕ) : Type 0 where
   pub back : (s : ℕ) → s < t → get_or next s 0 < n → get_or prev (get_or next s 0) 0 ≡ s
   pub else : (u : ℕ) → u < n → (get_or prev u 0 ≡ n) ⊎ ((get_or prev u 0 < t) × (get_or next (get_or prev u 0) 0 ≡ u))
 
--- prev undoes next, and past n the list is kept
-pub record Turned (n : ℕ) (next prev prev' : List ℕ) : Type 0 where
-  pub undoes : Undoes next prev' n n
-  pub kept : drop n prev' ≡ drop n prev
+-- the links of these items stand in front of the two lists, whose rest is kept
+pub record Laid (items next prev next' prev' : List ℕ) : Type 0 where
+  pub front_next : List ℕ
+  pub front_prev : List ℕ
+  pub nexts : Nexts items front_next (length items) 0
+  pub prevs : Undoes front_next front_prev (length items) (length items)
+  pub all_next : length front_next ≡ length items
+  pub all_prev : length front_prev ≡ length items
+  pub rest_next : next' ≡ front_next ++ drop (length items) next
+  pub rest_prev : prev' ≡ front_prev ++ drop (length items) prev
 
 -- the first n of these are the items of a trace's requests
 pub record Read (trace items : List ℕ) (n : ℕ) : Type 0 where

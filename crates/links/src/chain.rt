@@ -1,25 +1,25 @@
-// The next request of each request, found through chains of the requests whose items are equal modulo n.
-ghost use Rattle.std.specs.Prelude.{◌≡◌, suc, ◌≤◌, ◌<◌, length};
-ghost use Rattle.links.specs.Chains.{First, item_in, bucket_in, Room, Ready, NextsLaid};
+// The next request of each request, found through chains of the requests whose items are equal modulo their count n.
+ghost use Rattle.std.specs.Prelude.{◌≡◌, suc, ◌<◌, length};
+ghost use Rattle.links.specs.Chains.{First, item_in, bucket_in, Room, Ready, Nexts};
 
 use model::Requests;
 
-// The bucket of t's item.
-pub fn bucket(items: &[u16], n: usize, t: usize) -> usize
-    requires { (t < n) × (n ≤ length items.now) }
-    ensures { (result ≡ bucket_in items.now n t) × (result < n) }
+// The bucket of t's item: there are as many as requests.
+pub fn bucket(items: &[u16], t: usize) -> usize
+    requires { t < length items.now }
+    ensures { (result ≡ bucket_in items.now (length items.now) t) × (result < length items.now) }
 {
-    usize::from(items[t]) % n
+    usize::from(items[t]) % items.len()
 }
 
 // The next request of t's item, by a walk along the chain from `start`: the chain says where the loop goes on, and no range does.
-pub fn walk(items: &[u16], chain: &[u16], n: usize, t: usize, start: usize) -> usize
-    requires { Ready items.now chain.now n t start }
-    ensures { First (item_in items.now) n (item_in items.now t) (suc t) result }
+pub fn walk(items: &[u16], chain: &[u16], t: usize, start: usize) -> usize
+    requires { Ready items.now chain.now (length items.now) t start }
+    ensures { First (item_in items.now) (length items.now) (item_in items.now t) (suc t) result }
 {
     let item = items[t];
     let mut j = start;
-    while j < n {
+    while j < items.len() {
         if items[j] == item {
             return j;
         }
@@ -29,15 +29,16 @@ pub fn walk(items: &[u16], chain: &[u16], n: usize, t: usize, start: usize) -> u
 }
 
 // The next request of each request, from the last to the first; the chains are laid in `chain`.
-pub fn link(items: &[u16], n: usize, next: &mut [u16], chain: &mut [u16])
-    requires { Room items.now next.old chain.old n }
-    ensures { NextsLaid items.now n next.old chain.old next.new chain.new }
+pub fn link(items: &[u16], next: &mut [u16], chain: &mut [u16])
+    requires { Room items.now next.old chain.old (length items.now) }
+    ensures { Nexts items.now next.new (length items.now) 0 }
 {
+    let n = items.len();
     let mut head = [n as u16; Requests::MAX];
     for t in (0..n).rev() {
-        let b = bucket(items, n, t);
+        let b = bucket(items, t);
         let j = head[b];
-        let m = walk(items, chain, n, t, usize::from(j));
+        let m = walk(items, chain, t, usize::from(j));
         next[t] = m as u16;
         chain[t] = j;
         head[b] = t as u16;

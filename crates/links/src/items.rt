@@ -11,8 +11,8 @@ pub fn read(trace: &[u8], n: usize) -> [u16; Requests::MAX]
     ensures { Read trace.now result n }
 {
     let mut items = [0u16; Requests::MAX];
-    for t in 0..n {
-        items[t] = trace::item(trace, t) as u16;
+    for (t, item) in items[..n].iter_mut().enumerate() {
+        *item = trace::item(trace, t) as u16;
     }
     items
 }

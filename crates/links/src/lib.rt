@@ -1,8 +1,9 @@
 // The next and the previous request of the same item, for each request of a trace.
 #![tactic(auto)]
 
-ghost use Rattle.std.specs.Prelude.{◌≡◌, replicate};
+ghost use Rattle.std.specs.Prelude.{◌≡◌, ◌≤◌, length, replicate};
 ghost use Rattle.model.specs.Numbers.{max_requests};
+ghost use Rattle.links.specs.Chains.{Laid};
 ghost use Rattle.links.specs.Promise.{Filled};
 
 use model::{Refusal, Requests};
@@ -13,11 +14,23 @@ mod items;
 mod turn;
 
 // The two lists of a trace of n requests: their first n places have each request's next and previous request of the same item,
-// counted from 0, or n for none.
+// counted from 0, or n for none: `Filled` has numbers, and no `None`. Two lists and no list of pairs, since each is read alone, and
+// `Filled` speaks of each.
 #[derive(Drop)]
 pub struct Links {
     pub next: [u16; Requests::MAX],
     pub prev: [u16; Requests::MAX],
+}
+
+// Lays the links of these items in front of the two lists.
+fn lay(items: &[u16], next: &mut [u16; Requests::MAX], prev: &mut [u16; Requests::MAX])
+    requires { length items.now ≤ max_requests }
+    ensures { Laid items.now next.old prev.old next.new prev.new }
+{
+    let next = &mut next[..items.len()];
+    let prev = &mut prev[..items.len()];
+    chain::link(items, next, prev);
+    turn::turn(next, prev);
 }
 
 impl Links {
@@ -41,9 +54,7 @@ impl Links {
         let header = trace::check(trace)?;
         let n = header.requests;
         let items = items::read(trace, n);
-        chain::link(&items, n, &mut self.next, &mut self.prev);
-        turn::clear(n, &mut self.prev);
-        turn::turn(n, &self.next, &mut self.prev);
+        lay(&items[..n], &mut self.next, &mut self.prev);
         Ok(header)
     }
 }

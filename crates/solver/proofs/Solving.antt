@@ -1,13 +1,11 @@
 -- The rows of a solve, and what its calls answer and lay, as its promise has it. Assumes nothing.
-use mathlib.Core.Path.{◌≡◌, refl, ◌∙◌, ap}
-use Prim.Native.Nat.{ℕ, ◌+◌, ◌*◌, ◌≤◌, ◌<◌}
-use native.Mathlib.Omega.{arith}
+use mathlib.Core.Path.{◌≡◌, refl, ap}
+use Prim.Native.Nat.{ℕ, ◌≤◌, ◌<◌}
 use mathlib.Core.Bool.{Bool, true, false}
 use mathlib.Core.List.{List}
 use lib.Dec.{ltb}
 use lib.ListN.{length}
 use borrow.Author.Tests.{lt-ltb, le-ltb}
-use Rattle.model.specs.Numbers.{max_requests}
 use Rattle.std.proofs.Common.{Result, Ok, Err}
 use Rattle.model.specs.Refusals.{passes, refusal, row, number_of, place_of}
 use Rattle.model.specs.declared.Refusal.{Refusal}
@@ -16,10 +14,8 @@ use Rattle.model.proofs.Refusals.{answer_fine, answer_refused}
 use Rattle.trace.specs.TraceFile.{requests_at, trace_tried}
 use Rattle.trace.specs.Answers.{header_in}
 use Rattle.trace.specs.declared.Header.{Header}
-use Rattle.trace.proofs.Sound.{sound_trace}
 use Rattle.plan.specs.PlanFile.{shape_of, length_of}
 use Rattle.opening.specs.Opened.{Opened}
-use Rattle.steps.specs.Ready.{Ready}
 use Rattle.solver.specs.Solve.{solve_tried, Accepted, Promise}
 
 -- ---- rows
@@ -30,16 +26,16 @@ module _ (trace : List ℕ) (room : ℕ) where
   tried_refused number place e = rw e
 
   module _ (ok : trace_tried trace ≡ passes) where
-    tried-fits : 16 + 5 * requests_at trace ≤ room → solve_tried trace room ≡ passes
+    tried-fits : length_of (shape_of (requests_at trace)) ≤ room → solve_tried trace room ≡ passes
     unfolding solve_tried
     tried-fits l =
-        let e : ltb room (length_of (shape_of (requests_at trace))) ≡ false = le-ltb room (16 + requests_at trace + 4 * requests_at trace) (omega arith) in
+        let e : ltb room (length_of (shape_of (requests_at trace))) ≡ false = le-ltb room (length_of (shape_of (requests_at trace))) l in
         rw ok (ap (λ (b : Bool). row b 19 0 passes) e)
 
-    tried-short : room < 16 + 5 * requests_at trace → solve_tried trace room ≡ refusal 19 0
+    tried-short : room < length_of (shape_of (requests_at trace)) → solve_tried trace room ≡ refusal 19 0
     unfolding solve_tried
     tried-short l =
-        let e : ltb room (length_of (shape_of (requests_at trace))) ≡ true = lt-ltb room (16 + requests_at trace + 4 * requests_at trace) (omega arith) in
+        let e : ltb room (length_of (shape_of (requests_at trace))) ≡ true = lt-ltb room (length_of (shape_of (requests_at trace))) l in
         rw ok (ap (λ (b : Bool). row b 19 0 passes) e)
 
 -- ---- a trace that is refused
@@ -56,33 +52,12 @@ module _ {trace from₀ charges₀ worth₀ from charges worth : List ℕ} {h : 
   passed : trace_tried trace ≡ passes
   passed = (answer_fine (trace_tried trace) (header_in trace) h f.answer).0
 
-  counted : h.requests ≡ requests_at trace
-  counted = ap (λ (x : Header). x.requests) (answer_fine (trace_tried trace) (header_in trace) h f.answer).1
-
-  pub opened_header : h ≡ header_in trace
-  opened_header = (answer_fine (trace_tried trace) (header_in trace) h f.answer).1
-
-  pub opened_few : h.requests ≤ max_requests
-  opened_few = rw counted (sound_trace trace passed).requests
-
   module _ (buffer : List ℕ) where
     -- a buffer that is too short is refused
-    pub short-permitted : length buffer < 16 + 5 * h.requests → Promise trace buffer (Err BufferTooShort) buffer
-    short-permitted l = rw (tried-short trace (length buffer) passed (rw counted at l)) (refl, refl)
+    pub short-permitted : length buffer < length_of (shape_of (requests_at trace)) → Promise trace buffer (Err BufferTooShort) buffer
+    short-permitted l = rw (tried-short trace (length buffer) passed l) (refl, refl)
 
-    module _ (room : 16 + 5 * h.requests ≤ length buffer) where
-      -- into any other the plan can be written
-      pub opened-ready : length worth₀ ≡ 2050 → Ready trace from charges worth buffer
-      opened-ready long = record {
-        sound = passed;
-        from₀ = from₀;
-        charges₀ = charges₀;
-        worth₀ = worth₀;
-        lists = f.sound passed;
-        worth_long = ((f.sound passed).started.told (sound_trace trace passed).requests).long ∙ long;
-        room = omega (arith, counted);
-      }
-
+    module _ (room : length_of (shape_of (requests_at trace)) ≤ length buffer) where
       -- and an accepted plan is what is promised
       pub accepted-permitted : {r : Result ℕ Refusal} {after : List ℕ} → Accepted trace buffer r after → Promise trace buffer r after
-      accepted-permitted a = rw (tried-fits trace (length buffer) passed (rw counted at room)) a
+      accepted-permitted a = rw (tried-fits trace (length buffer) passed room) a

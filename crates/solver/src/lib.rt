@@ -3,7 +3,7 @@
 
 ghost use Rattle.solver.specs.Solve.{Promise};
 
-use model::Refusal;
+use model::{Refusal, Requests};
 use opening::begin;
 use output::write_least;
 use slots::{Lists, Slots};
@@ -18,15 +18,15 @@ mod walk;
 pub fn solve(trace: &[u8], buffer: &mut [u8]) -> Result<u64, Refusal>
     ensures { Promise trace.now buffer.old result buffer.new }
 {
-    let mut from = [1u16; 6150];
-    let mut charges = [1u32; 1024];
+    let mut from = [1u16; ways::PLACES];
+    let mut charges = [1u32; Requests::MAX];
     // Worths of 0 are made where they stand; others would be made beside the struct first, and the stack is short.
     let mut slots = Slots {
-        worth: [0; 2050],
-        flags: [0; 1024],
+        worth: [0; worths::PLACES],
+        flags: [0; Requests::MAX],
     };
     let header = begin(trace, &mut from, &mut charges, &mut slots.worth)?;
-    if buffer.len() < 16 + 5 * header.requests {
+    if buffer.len() < plan::size(trace) {
         return Err(Refusal::BufferTooShort);
     }
     let lists = Lists {

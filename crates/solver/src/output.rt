@@ -6,7 +6,7 @@ ghost use Rattle.steps.specs.Slots.{Laid, Cheap};
 ghost use Rattle.solver.specs.Solve.{Accepted};
 
 use crate::slots::{Lists, Slots};
-use model::Refusal;
+use model::{Refusal, Requests};
 use worths::rents;
 
 // Writes the plan that laid slots make. The rents stand in a function of their own, so that they take the room that laying needs no
@@ -18,7 +18,7 @@ fn write_laid(lists: &Lists<'_>, slots: &Slots, buffer: &mut [u8]) -> Result<u64
     ensures { Accepted lists.now.trace.now buffer.old result buffer.new }
 {
     let n = lists.header.requests;
-    let mut prices = [1u32; 1024];
+    let mut prices = [1u32; Requests::MAX];
     rents(&slots.worth, n, &mut prices);
     writer::write(lists.trace, &slots.flags[..n], &prices[..n], buffer)
 }

@@ -8,7 +8,6 @@ ghost use Rattle.steps.specs.Search.{ways_by, Runs, Graph, Finds};
 use frontier::Frontier;
 
 // The distances of a search that has not begun. One search must not colour the next: every node is unreached.
-#[inline(always)]
 pub fn fresh() -> [u32; Frontier::MAX]
     ensures { result ≡ replicate 2050 far }
 {
@@ -19,8 +18,8 @@ pub fn fresh() -> [u32; Frontier::MAX]
 #[derive(Drop)]
 pub struct Ways<'a> {
     pub n: usize,
-    pub from: &'a [u16; 6150],
-    pub len: &'a [u32; 6150],
+    pub from: &'a [u16; ways::PLACES],
+    pub len: &'a [u32; ways::PLACES],
 }
 
 // Takes a node from the stack, and offers each way into it: one that is closed is too long to bring any node nearer. The requests
@@ -51,7 +50,7 @@ pub fn shortest(ways: &Ways<'_>, search: &mut Frontier)
     search.waiting = 0;
     let mut current: u64 = 0;
     // A `for` over the turns is no plainer: where none is left it would still owe that point 0 is reached.
-    let mut left: usize = 4100;
+    let mut left: usize = 2 * Frontier::MAX;
     while current < u64::from(search.dist[0]) {
         if search.top == 0 {
             current = search.refill(current);

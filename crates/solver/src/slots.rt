@@ -5,6 +5,7 @@ ghost use Rattle.steps.specs.Slots.{Laid, Cheap};
 use crate::search::{Ways, fresh, shortest};
 use crate::walk::walk;
 use frontier::Frontier;
+use model::Requests;
 use trace::Header;
 use ways::lengths;
 use worths::raise;
@@ -15,20 +16,26 @@ use worths::raise;
 pub struct Lists<'a> {
     pub trace: &'a [u8],
     pub header: Header,
-    pub from: &'a [u16; 6150],
-    pub charges: &'a [u32; 1024],
+    pub from: &'a [u16; ways::PLACES],
+    pub charges: &'a [u32; Requests::MAX],
 }
 
 // The slots that are laid: the worths of points and requests, and the flags that fit together with them.
 #[derive(Drop)]
 pub struct Slots {
-    pub worth: [u32; 2050],
-    pub flags: [u8; 1024],
+    pub worth: [u32; worths::PLACES],
+    pub flags: [u8; Requests::MAX],
 }
 
 impl Slots {
     // One slot more. The lengths of the ways are told anew.
-    fn more(&mut self, lists: &Lists<'_>, len: &mut [u32; 6150], search: &mut Frontier, k: u8)
+    fn more(
+        &mut self,
+        lists: &Lists<'_>,
+        len: &mut [u32; ways::PLACES],
+        search: &mut Frontier,
+        k: u8,
+    )
         requires { Laid lists.now.trace.now lists.now.header.requests lists.now.header.fill k self.old.worth self.old.flags lists.now.from.now lists.now.charges.now × (k < 64) }
         ensures { Laid lists.now.trace.now lists.now.header.requests lists.now.header.fill (suc k) self.new.worth self.new.flags lists.now.from.now lists.now.charges.now }
     {
@@ -64,7 +71,7 @@ impl Slots {
         requires { Laid lists.now.trace.now lists.now.header.requests lists.now.header.fill 0 self.old.worth self.old.flags lists.now.from.now lists.now.charges.now × Cheap lists.now.header.requests self.old.worth × (w ≤ 64) }
         ensures { Laid lists.now.trace.now lists.now.header.requests lists.now.header.fill w self.new.worth self.new.flags lists.now.from.now lists.now.charges.now × Cheap lists.now.header.requests self.new.worth }
     {
-        let mut len = [1u32; 6150];
+        let mut len = [1u32; ways::PLACES];
         // It is made here, and of zeros: a search that is handed out is copied, and lists whose bytes differ are made beside it first. The
         // stack is too short for that.
         let mut search = Frontier {

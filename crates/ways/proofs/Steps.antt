@@ -4,12 +4,15 @@ use Prim.Native.Nat.{ℕ, zero, suc, ◌+◌, ◌-◌, ◌≤◌, ◌<◌}
 use native.Mathlib.Omega.{arith}
 use native.Mathlib.Numerals.{add-one}
 use mathlib.Core.Bool.{Bool, true, false, cond}
-use mathlib.Core.List.{List, ◌++◌}
-use lib.ListN.{length, get_or, set, drop, length-set}
+use mathlib.Core.List.{List, [], ◌++◌}
+use lib.ListN.{length, get_or, set, take, drop, length-set, length-drop, drop_of_length-le}
+use lib.Seq.{length-take-le}
 use lib.Dec.{ltb}
 use borrow.Author.Tests.{lt-ltb, le-ltb}
+use Rattle.std.proofs.lemmas.List.{append-nil, length-append}
+use Rattle.trace.specs.TraceFile.{requests_at}
 use Rattle.ways.specs.Ways.{closed, point_source, request_source, source_by, charge_at, kept_by, crowd_step, crowd_by, point_length, request_length, length_by}
-use Rattle.ways.specs.Promise.{listed, Sourced, Measured}
+use Rattle.ways.specs.Promise.{listed, Sourced, Charged, Measured}
 use Rattle.ways.specs.Parts.{put_at, put_both, crowd_before, idle_way, Turned}
 use Rattle.ways.proofs.Rows.{listed_step, Says, Laying, laying_start, laying_turn, laying_end, both_laid, length_both}
 
@@ -50,24 +53,39 @@ module _ (next prev : List ℕ) (n : ℕ) where
 -- ---- charges
 
 -- the charges of the requests before t are stored
-pub record Charging (tr old l : List ℕ) (n t : ℕ) : Type 0 where
-  pub upto : t ≤ n
+pub record Charging (tr old l : List ℕ) (t : ℕ) : Type 0 where
+  pub upto : t ≤ length old
   pub laid : l ≡ listed (charge_at tr) t 0 ++ drop t old
-  pub long : length l ≡ 1024
+  pub long : length l ≡ length old
 
-module _ (tr old : List ℕ) (n : ℕ) where
-  pub charging_start : length old ≡ 1024 → Charging tr old old n 0
+module _ (tr old : List ℕ) where
+  pub charging_start : Charging tr old old 0
   unfolding listed
-  charging_start h = record { upto = omega arith; laid = refl; long = h }
+  charging_start = record { upto = omega arith; laid = refl; long = refl }
 
-  pub charging_turn : (l : List ℕ) (t a : ℕ) → n ≤ 1024 → length old ≡ 1024 → Charging tr old l n t → t < n → a ≡ charge_at tr t
-      → Charging tr old (set l t a) n (t + 1)
-  charging_turn l t a few long w h e =
+  pub charging_turn : (l : List ℕ) (t a : ℕ) → Charging tr old l t → t < length l → a ≡ charge_at tr t
+      → Charging tr old (set l t a) (t + 1)
+  charging_turn l t a w h e =
+      let long = w.long in
       record {
         upto = omega arith;
         laid = rw (add-one t, e, w.laid) (listed_step (charge_at tr) t old (omega arith));
         long = length-set l t a ∙ w.long;
       }
+
+-- of the first n places of a list
+pub charging_end : {tr old l : List ℕ} {n t : ℕ} → n ≡ requests_at tr → n ≤ 1024 → length old ≡ 1024
+    → Charging tr (take n old) l t → length (take n old) ≤ t → Charged tr old (l ++ drop n old)
+charging_end {tr} {old} {l} {n} {t} e few long w h =
+    let part : length (take n old) ≡ n = length-take-le n old (omega arith) in
+    let upto = w.upto in
+    let all : t ≡ n = omega arith in
+    let none : drop n (take n old) ≡ [] = drop_of_length-le (take n old) (omega arith) in
+    let is : l ≡ listed (charge_at tr) n 0 = rw (w.laid, all, none) (append-nil (listed (charge_at tr) n 0)) in
+    record {
+      laid = rw (← e, le-ltb 1024 n few, is) refl;
+      long = length-append l (drop n old) ∙ (let a = w.long in let b = length-drop n old in omega arith);
+    }
 
 -- ---- lengths
 

@@ -1,5 +1,6 @@
 // The ways into each node of the network that is left over the flags: where each comes from, and how long it is.
-// Node g is point g, which stands before request g; node n + 1 + t is request t. Way `kind` into node u stands at place 3 u + kind.
+// Node g is point g, which stands before request g; node n + 1 + t is request t. Way `kind` into node u stands at place 3 u + kind:
+// `Sourced` and `Measured` hold flat lists of numbers, so the lists here are flat.
 #![tactic(auto)]
 
 ghost use Rattle.std.specs.Prelude.{◌≡◌};
@@ -19,10 +20,11 @@ pub const NODES: usize = 2 * Requests::MAX + 2;
 // How many places a list of ways has: three for each node.
 pub const PLACES: usize = 3 * NODES;
 
-// The length of a way that is closed.
+// The length of a way that is closed. It is a number and no `None`, since `Measured` holds numbers.
 pub const CLOSED: u32 = u32::MAX;
 
-// Where all ways come from, three for each node; nothing where n is over 1024.
+// Where all ways come from, three for each node; nothing where n is over 1024. It takes the two lists and no `Links`: `Sourced` speaks
+// of each list, and this crate knows nothing of links.
 pub fn sources(
     next: &[u16; Requests::MAX],
     prev: &[u16; Requests::MAX],
@@ -42,13 +44,14 @@ pub fn charges(trace: &[u8], charges: &mut [u32; Requests::MAX])
 {
     let n = trace::requests(trace);
     if n <= Requests::MAX {
-        for t in 0..n {
-            charges[t] = paid::charge(trace, t);
+        for (t, charge) in charges[..n].iter_mut().enumerate() {
+            *charge = paid::charge(trace, t);
         }
     }
 }
 
-// The lengths of all ways, three for each node, with k slots laid; nothing where n is over 1024.
+// The lengths of all ways, three for each node, with k slots laid; nothing where n is over 1024. `Measured` names each of the eight,
+// and a `Network` cannot stand for six of them: its field `few` is proved from the test.
 pub fn lengths(
     n: usize,
     fill: u32,

@@ -9,7 +9,8 @@ use crate::{CLOSED, NODES, PLACES};
 use model::Requests;
 
 // What the lengths are told from: n requests and their fill price, where ways come from, what requests are charged, which items are
-// held, and what nodes are worth. Its methods take a request t < n: a struct of that fact would put each list behind two references.
+// held, and what nodes are worth. Its methods take a request t < n: a struct of a request and that fact is no plainer, since it would
+// be made for each request, and each list read through two references, as `self.network.worth`.
 #[derive(Clone, Copy)]
 pub struct Network<'a> {
     pub n: usize,
@@ -31,22 +32,12 @@ struct Brought {
     middle: u32,
 }
 
-// What a slot worth q loses for an item worth w that is held no more.
-fn given_up(q: u32, w: u32, c: u32) -> u32
-    ensures { result ≡ unheld q w c }
+// What a slot worth q loses, by a charge c, for an item worth w that is held from now on, or that is held no more.
+fn loss(q: u32, w: u32, c: u32, held: bool) -> u32
+    ensures { result ≡ cond held (now_held q w c) (unheld q w c) }
 {
-    if c % 2 == 1 {
-        q.wrapping_sub(c / 2).wrapping_sub(w)
-    } else {
-        q.wrapping_add(c / 2).wrapping_sub(w)
-    }
-}
-
-// And for one that is held from now on.
-fn taken_up(q: u32, w: u32, c: u32) -> u32
-    ensures { result ≡ now_held q w c }
-{
-    if c % 2 == 1 {
+    let write = c % 2 == 1;
+    if write == held {
         q.wrapping_add(c / 2).wrapping_sub(w)
     } else {
         q.wrapping_sub(c / 2).wrapping_sub(w)
@@ -81,7 +72,12 @@ impl<'a> Network<'a> {
         let v = self.n + 1 + t;
         let a = usize::from(self.from[3 * v]);
         if v < a && a < 2 * self.n + 1 {
-            given_up(self.worth[a], self.worth[v], self.charges[a - (self.n + 1)])
+            loss(
+                self.worth[a],
+                self.worth[v],
+                self.charges[a - (self.n + 1)],
+                false,
+            )
         } else {
             CLOSED
         }
@@ -95,7 +91,7 @@ impl<'a> Network<'a> {
         let v = self.n + 1 + t;
         let b = usize::from(self.from[3 * v + 1]);
         if self.n < b && b < v {
-            taken_up(self.worth[b], self.worth[v], self.charges[t])
+            loss(self.worth[b], self.worth[v], self.charges[t], true)
         } else {
             CLOSED
         }

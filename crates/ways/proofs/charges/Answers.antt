@@ -1,12 +1,16 @@
 use borrow.Author.Rules.{rules}
-use Rattle.ways.proofs.Steps.{charging_start, charging_turn}
+use native.Mathlib.Omega.{arith}
+use Rattle.ways.proofs.Steps.{charging_start, charging_turn, charging_end}
 use Rattle.ways.proofs.charges.Goals as goal
 
 pub loop-t-init : goal.loop-t-init
-loop-t-init c = let a = c.args in charging_start a.trace.now a.charges.now _ (search rules)
+loop-t-init c = charging_start _ _
 
 pub loop-t-preserved : goal.loop-t-preserved
 loop-t-preserved c =
-    let a = c.args in
     let l = c.loop-t in
-    charging_turn a.trace.now a.charges.now _ l.charges l.t _ c.if-n-le-MAX.true (search rules) l.invariant c.loop-t-test.true c.charge.ensures
+    charging_turn _ _ l.charge-items l.t _ l.invariant (omega (arith, l.auto.charge-items, c.loop-t-test.true)) c.charge.ensures
+
+pub returns-after-loop-t : goal.returns-after-loop-t
+returns-after-loop-t c =
+    charging_end c.requests-n.ensures.0 c.if-n-le-MAX.true (search rules) c.loop-t.invariant c.loop-t-test.false

@@ -3,4 +3,4 @@ use Rattle.ways.proofs.Steps.{Charging}
 use Rattle.ways.proofs.charges.Given as goal
 
 abbrev pub invariant-loop-t : goal.invariant-loop-t
-invariant-loop-t l = Charging l.trace l.initial.charges l.charges l.n l.t
+invariant-loop-t l = Charging l.trace l.initial.charge-items l.charge-items l.t
