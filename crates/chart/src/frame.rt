@@ -1,16 +1,16 @@
 // What of a chart is there before any request: its size, its styles, its marks, its title, the legend and the slot rows.
-use crate::out::put;
+use crate::sheet::Sheet;
 use crate::sizes::Sizes;
 use replay::Totals;
 use std::io;
 
-// The picture's size, its styles, its marks around the point that they stand at, and its background.
-pub fn open<O: Print>(out: &O, s: Sizes) -> io::Result<()> {
-    let width = s.width();
-    let height = s.height();
-    put(
-        out,
-        b"<svg xmlns=\"http://www.w3.org/2000/svg\" width=\"@\" height=\"@\">\n\
+impl<O: Print> Sheet<'_, O> {
+    // The picture's size, its styles, its marks around the point that they stand at, and its background.
+    pub fn open(&self) -> io::Result<()> {
+        let width = self.sizes.width();
+        let height = self.sizes.height();
+        self.put(
+            b"<svg xmlns=\"http://www.w3.org/2000/svg\" width=\"@\" height=\"@\">\n\
         <style>text{font:12px sans-serif;fill:#222}.t{font-weight:bold;font-size:14px}.n{fill:#666}\
         .b{fill:#fff}.l{fill:#f1f3f5}.v{stroke:#d5d9de;stroke-width:1}.k{stroke:#555;stroke-width:.6}\
         .i{font-size:11px}.a,.r{text-anchor:middle}.d{font-size:9px}.e{font-size:9px;text-anchor:end}\
@@ -21,17 +21,16 @@ pub fn open<O: Print>(out: &O, s: Sizes) -> io::Result<()> {
         <path id=\"m\" d=\"M-4-4 4 4M-4 4 4-4\" stroke=\"#c92a2a\" stroke-width=\"2\"/>\
         <circle id=\"p\" r=\"2.6\" fill=\"#9aa0a6\"/></defs>\n\
         <rect class=\"b\" x=\"0\" y=\"0\" width=\"@\" height=\"@\"/>\n",
-        &[width, height, width, height],
-    )
-}
+            &[width, height, width, height],
+        )
+    }
 
-// The totals and what the trace's header says, the legend, and the names of what stands above and below the slot rows.
-pub fn names<O: Print>(out: &O, s: Sizes, fill: u64, totals: Totals) -> io::Result<()> {
-    let full = s.below(18);
-    let rent = s.below(36);
-    put(
-        out,
-        b"<text class=\"t\" x=\"16\" y=\"24\">cost @: read misses @, fills @, write hits @ \
+    // The totals and what the trace's header says, the legend, and the names of what stands above and below the slot rows.
+    pub fn names(&self, fill: u64, totals: Totals) -> io::Result<()> {
+        let full = self.sizes.below(18);
+        let rent = self.sizes.below(36);
+        self.put(
+            b"<text class=\"t\" x=\"16\" y=\"24\">cost @: read misses @, fills @, write hits @ \
         (requests @, slots @, fill price @)</text>\n\
         <use href=\"#f\" x=\"22\" y=\"44\"/><text class=\"n\" x=\"34\" y=\"48\">miss and fill</text>\
         <use href=\"#h\" x=\"136\" y=\"44\"/><text class=\"n\" x=\"148\" y=\"48\">hit</text>\
@@ -42,40 +41,40 @@ pub fn names<O: Print>(out: &O, s: Sizes, fill: u64, totals: Totals) -> io::Resu
         <text class=\"n\" x=\"16\" y=\"70\">request</text><text class=\"n\" x=\"16\" y=\"88\">item</text>\
         <text class=\"n\" x=\"16\" y=\"122\">past the cache</text>\
         <text class=\"n\" x=\"16\" y=\"@\">full gaps</text><text class=\"n\" x=\"16\" y=\"@\">rent</text>\n",
-        &[
-            totals.total,
-            totals.misses,
-            totals.fills,
-            totals.strikes,
-            s.requests,
-            s.slots,
-            fill,
-            full,
-            rent,
-        ],
-    )
-}
-
-// The slot rows.
-pub fn rows<O: Print>(out: &O, s: Sizes) -> io::Result<()> {
-    for row in 0..s.slots {
-        slot(out, s, row)?;
+            &[
+                totals.total,
+                totals.misses,
+                totals.fills,
+                totals.strikes,
+                self.sizes.requests,
+                self.sizes.slots,
+                fill,
+                full,
+                rent,
+            ],
+        )
     }
-    Ok(())
-}
 
-// A slot row, named at both ends.
-fn slot<O: Print>(out: &O, s: Sizes, row: u64) -> io::Result<()> {
-    let y = s.y(row);
-    let name = y.saturating_add(14);
-    let shown = row.saturating_add(1);
-    let end = s.x(s.requests);
-    let width = end.saturating_sub(Sizes::LEFT);
-    let right = end.saturating_add(8);
-    put(
-        out,
-        b"<rect class=\"l\" x=\"@\" y=\"@\" width=\"@\" height=\"20\"/>\
+    // The slot rows.
+    pub fn rows(&self) -> io::Result<()> {
+        for row in 0..self.sizes.slots {
+            self.slot(row)?;
+        }
+        Ok(())
+    }
+
+    // A slot row, named at both ends.
+    fn slot(&self, row: u64) -> io::Result<()> {
+        let y = self.sizes.y(row);
+        let name = y.saturating_add(14);
+        let shown = row.saturating_add(1);
+        let end = self.sizes.x(self.sizes.requests);
+        let width = end.saturating_sub(Sizes::LEFT);
+        let right = end.saturating_add(8);
+        self.put(
+            b"<rect class=\"l\" x=\"@\" y=\"@\" width=\"@\" height=\"20\"/>\
         <text class=\"n\" x=\"16\" y=\"@\">slot @</text><text class=\"n\" x=\"@\" y=\"@\">slot @</text>\n",
-        &[Sizes::LEFT, y, width, name, shown, right, name, shown],
-    )
+            &[Sizes::LEFT, y, width, name, shown, right, name, shown],
+        )
+    }
 }

@@ -3,28 +3,27 @@
 
 mod frame;
 mod marks;
-mod out;
 mod picture;
+mod sheet;
 mod sizes;
 
+use disk::System;
 use std::io;
 
 fn main(rt: HostRuntime) {
     let err = rt.stderr();
-    if disk::words(&rt) != 3 {
-        help(&err);
+    let system = System { rt: &rt, err: &err };
+    if system.words() != 3 {
+        help(&system);
         return;
     }
     let mut trace = [0u8; trace::ROOM];
     let mut plan = [0u8; plan::ROOM];
-    let Some(n) = disk::load_argument(&rt, &err, 1, &mut trace) else {
-        return;
-    };
-    let Some(m) = disk::load_argument(&rt, &err, 2, &mut plan) else {
+    let Some((n, m)) = system.load_two(1, &mut trace, &mut plan) else {
         return;
     };
     if let Err(error) = answer(&rt, &trace[..n], &plan[..m]) {
-        disk::fail(&err, b"standard output", error);
+        system.fail(b"standard output", error);
     }
 }
 
@@ -32,13 +31,10 @@ fn main(rt: HostRuntime) {
 fn answer<O: Print>(out: &O, trace: &[u8], plan: &[u8]) -> io::Result<()> {
     match audit::audit(trace, plan) {
         Ok(totals) => picture::draw(out, trace, plan, totals),
-        Err(r) => out::refused(out, r, trace::slots(trace) as u64),
+        Err(r) => sheet::refused(out, r, trace::slots(trace) as u64),
     }
 }
 
-fn help<E: Print>(err: &E) {
-    disk::say(
-        err,
-        b"usage: chart TRACE PLAN\nfor example: chart samples/V17.trace samples/V17.plan\n",
-    );
+fn help<R, E: Print>(system: &System<R, E>) {
+    system.say(b"usage: chart TRACE PLAN\nfor example: chart samples/V17.trace samples/V17.plan\n");
 }

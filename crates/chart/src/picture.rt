@@ -1,24 +1,26 @@
 // An SVG picture of a plan. Time goes from left to right, each slot has a row, each keep is a bar; what happens at each request
 // is marked on it, and the full gaps and the rents stand below. Which row a keep is drawn in is for show only; `lanes` has the
 // promise that no row shows two items in one gap and that every held item has a row. The numbers are those of the schedule.
-use crate::out::put;
+use crate::sheet::Sheet;
 use crate::sizes::Sizes;
-use crate::{frame, marks};
 use links::Links;
 use model::Requests;
 use replay::Totals;
 use std::io;
 
 pub fn draw<O: Print>(out: &O, trace: &[u8], plan: &[u8], totals: Totals) -> io::Result<()> {
-    let s = Sizes::new(trace::requests(trace) as u64, trace::slots(trace) as u64);
-    frame::open(out, s)?;
-    frame::names(out, s, trace::fill(trace), totals)?;
-    frame::rows(out, s)?;
-    filled(out, trace, plan, s)
+    let sheet = Sheet {
+        out,
+        sizes: Sizes::new(trace::requests(trace) as u64, trace::slots(trace) as u64),
+    };
+    sheet.open()?;
+    sheet.names(trace::fill(trace), totals)?;
+    sheet.rows()?;
+    filled(&sheet, trace, plan)
 }
 
 // The gaps, the keeps, and over them the requests. The plan has passed the audit, so nothing here is refused.
-fn filled<O: Print>(out: &O, trace: &[u8], plan: &[u8], s: Sizes) -> io::Result<()> {
+fn filled<O: Print>(sheet: &Sheet<O>, trace: &[u8], plan: &[u8]) -> io::Result<()> {
     let flags = plan::flags(trace, plan);
     let mut links = Links::new();
     let mut slots = [0u8; Requests::MAX];
@@ -30,15 +32,14 @@ fn filled<O: Print>(out: &O, trace: &[u8], plan: &[u8], s: Sizes) -> io::Result<
         flags,
         links: &links,
         slots: &slots,
-        s,
     };
-    picture.gaps(out)?;
-    picture.keeps(out)?;
-    picture.requests(out)?;
-    put(out, b"</svg>\n", &[])
+    picture.gaps(sheet)?;
+    picture.keeps(sheet)?;
+    picture.requests(sheet)?;
+    sheet.put(b"</svg>\n", &[])
 }
 
-// What is drawn: a plan for a trace, with the slot row of each request, and the measures.
+// What is drawn: a plan for a trace, with the slot row of each request.
 #[derive(Clone, Copy)]
 struct Picture<'a> {
     trace: &'a [u8],
@@ -46,36 +47,35 @@ struct Picture<'a> {
     flags: &'a [u8],
     links: &'a Links,
     slots: &'a [u8],
-    s: Sizes,
 }
 
 impl Picture<'_> {
     // Each gap with how many items it holds, and its rent.
-    fn gaps<O: Print>(&self, out: &O) -> io::Result<()> {
+    fn gaps<O: Print>(&self, sheet: &Sheet<O>) -> io::Result<()> {
         for t in 0..trace::requests(self.trace) {
             if let Ok(Some(here)) = schedule::step_of(self.trace, self.plan, t) {
-                marks::gap(out, t as u64, here, self.s)?;
+                sheet.gap(t as u64, here)?;
             }
         }
         Ok(())
     }
 
-    fn keeps<O: Print>(&self, out: &O) -> io::Result<()> {
+    fn keeps<O: Print>(&self, sheet: &Sheet<O>) -> io::Result<()> {
         for (t, flag) in self.flags.iter().enumerate() {
             if *flag == 1 {
                 let item = trace::item(self.trace, t);
                 let next = place(&self.links.next, t) as u64;
-                marks::keep(out, item, t as u64, next, self.row(t), self.s)?;
+                sheet.keep(item, t as u64, next, self.row(t))?;
             }
         }
         Ok(())
     }
 
-    fn requests<O: Print>(&self, out: &O) -> io::Result<()> {
+    fn requests<O: Print>(&self, sheet: &Sheet<O>) -> io::Result<()> {
         for t in 0..trace::requests(self.trace) {
             if let Ok(Some(here)) = schedule::step_of(self.trace, self.plan, t) {
                 let before = self.row(place(&self.links.prev, t));
-                marks::request(out, t as u64, here, self.row(t), before, self.s)?;
+                sheet.request(t as u64, here, self.row(t), before)?;
             }
         }
         Ok(())

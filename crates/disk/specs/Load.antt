@@ -13,6 +13,11 @@ abbrev pub Holds : Option ℕ → List ℕ → Type 0
 Holds (Some n) buf = IsPrefixLen n buf
 Holds None buf = Unit {0}
 
+-- the same of two loads, each into its own buffer
+abbrev pub HoldBoth : Option (ℕ × ℕ) → (first second : List ℕ) → Type 0
+HoldBoth (Some (n, m)) first second = IsPrefixLen n first × IsPrefixLen m second
+HoldBoth None first second = Unit {0}
+
 -- the bytes that were loaded are the first that the reader had, where it says which it has, and no others are gone from it
 abbrev pub Takes : Option ℕ → (old new : Option (List ℕ)) → List ℕ → Type 0
 Takes (Some n) old new buf = Consumes old new (take n buf)

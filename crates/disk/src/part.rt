@@ -3,7 +3,7 @@ ghost use Rattle.std.specs.Prelude.{◌+◌, ◌≤◌, ◌≡◌, ◌++◌, len
 ghost use Rattle.disk.specs.Load.{IsPrefixLen};
 ghost use Rattle.disk.specs.Part.{suffix};
 
-use crate::told;
+use crate::System;
 use std::fs::{OpenFile, OpenOptions};
 use std::io::Write;
 use std::rt::Files;
@@ -30,16 +30,16 @@ pub fn name(path: &[u8], to: &mut [u8]) -> usize
 
 // Makes the file with these bytes, or says why not and leaves none. A file that is there already
 // is left alone: it may be another program's, at work on the same file.
-pub fn make<R: Files, E: Print>(rt: &R, err: &E, path: &str, bytes: &[u8]) -> Option<()> {
+pub fn make<R: Files, E: Print>(system: &System<R, E>, path: &str, bytes: &[u8]) -> Option<()> {
     let made = OpenOptions::new()
         .write(true)
         .create_new(true)
-        .open(rt, path);
-    let mut file = told(err, path.as_bytes(), made)?;
-    let filled = told(err, path.as_bytes(), reached(&mut file, bytes));
+        .open(system.rt, path);
+    let mut file = system.told(path.as_bytes(), made)?;
+    let filled = system.told(path.as_bytes(), reached(&mut file, bytes));
     drop(file);
     if filled.is_none() {
-        let _ = fs::remove_file(rt, path);
+        let _ = fs::remove_file(system.rt, path);
     }
     filled
 }

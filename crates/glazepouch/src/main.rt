@@ -5,6 +5,7 @@ mod said;
 mod solving;
 mod words;
 
+use disk::System;
 use said::{Part, tell};
 use std::io;
 use std::rt::{Env, Files};
@@ -13,52 +14,49 @@ use words::Command;
 // The two buffers serve every command, and each command has a call of its own, so that the solver finds little on the stack.
 fn main(rt: HostRuntime) {
     let err = rt.stderr();
+    let system = System { rt: &rt, err: &err };
     let mut trace = [0u8; trace::ROOM];
     let mut plan = [0u8; plan::ROOM];
-    let Some(command) = words::asked(&rt) else {
+    let Some(command) = words::asked(&system) else {
         let _ = help(&err);
         return;
     };
     let answered = match command {
-        Command::Least => solving::solve(&rt, &err, false, &mut trace, &mut plan),
-        Command::Solve => solving::solve(&rt, &err, true, &mut trace, &mut plan),
-        Command::Judge => on_plan(&rt, &err, &mut trace, &mut plan, |trace, plan| {
+        Command::Least => solving::solve(&system, None, &mut trace, &mut plan),
+        Command::Solve => solving::solve(&system, Some(3), &mut trace, &mut plan),
+        Command::Judge => on_plan(&system, &mut trace, &mut plan, |trace, plan| {
             tell(&rt, Part::Judgement, trace, plan)
         }),
-        Command::Audit => on_plan(&rt, &err, &mut trace, &mut plan, |trace, plan| {
+        Command::Audit => on_plan(&system, &mut trace, &mut plan, |trace, plan| {
             tell(&rt, Part::Totals, trace, plan)
         }),
-        Command::Floor => on_plan(&rt, &err, &mut trace, &mut plan, |trace, plan| {
+        Command::Floor => on_plan(&system, &mut trace, &mut plan, |trace, plan| {
             tell(&rt, Part::Floor, trace, plan)
         }),
-        Command::Schedule => on_plan(&rt, &err, &mut trace, &mut plan, |trace, plan| {
+        Command::Schedule => on_plan(&system, &mut trace, &mut plan, |trace, plan| {
             schedule(&rt, trace, plan)
         }),
-        Command::Ratio => on_costs(&rt, &err),
+        Command::Ratio => on_costs(&system),
     };
     if let Err(error) = answered {
-        disk::fail(&err, b"standard output", error);
+        system.fail(b"standard output", error);
     }
 }
 
 // The commands on a trace and a plan. What can't be loaded has been said.
 #[inline(never)]
 fn on_plan<R: Files + Env, E: Print, T: FnOnce(&[u8], &[u8]) -> io::Result<()>>(
-    rt: &R,
-    err: &E,
+    system: &System<R, E>,
     trace: &mut [u8; trace::ROOM],
     plan: &mut [u8; plan::ROOM],
     told: T,
 ) -> io::Result<()>
     requires { T.IsAlwaysCallable told }
 {
-    let Some(n) = disk::load_argument(rt, err, 2, trace) else {
-        return Ok(());
-    };
-    let Some(m) = disk::load_argument(rt, err, 3, plan) else {
-        return Ok(());
-    };
-    told(&trace[..n], &plan[..m])
+    match system.load_two(2, trace, plan) {
+        Some((n, m)) => told(&trace[..n], &plan[..m]),
+        None => Ok(()),
+    }
 }
 
 // The heading, a line for each request, and the totals; of a plan that the audit refuses, the refusal alone.
@@ -74,14 +72,14 @@ fn schedule<O: Print>(out: &O, trace: &[u8], plan: &[u8]) -> io::Result<()> {
 }
 
 // The command on two costs. What is no number has been said.
-fn on_costs<R: Env + Print, E: Print>(rt: &R, err: &E) -> io::Result<()> {
-    let Some(least) = words::read(rt, err, 2) else {
+fn on_costs<R: Env + Print, E: Print>(system: &System<R, E>) -> io::Result<()> {
+    let Some(least) = words::read(system, 2) else {
         return Ok(());
     };
-    let Some(measured) = words::read(rt, err, 3) else {
+    let Some(measured) = words::read(system, 3) else {
         return Ok(());
     };
-    said::ratio(rt, least, measured)
+    said::ratio(system.rt, least, measured)
 }
 
 fn help<E: Print>(err: &E) -> io::Result<()> {

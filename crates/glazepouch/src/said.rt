@@ -30,6 +30,7 @@ pub fn tell<O: Print>(out: &O, asked: Part, trace: &[u8], plan: &[u8]) -> io::Re
     print_part(out, asked, trace, plan, shown(&page, size))
 }
 
+// The parts are an enum and no closures: `page_of` of specs/Printed tells a part's bytes.
 fn lay_part(asked: Part, trace: &[u8], plan: &[u8], page: &mut [u8; ROOM]) -> usize
     ensures { Lies (page_of asked trace.now plan.now) page.old result page.new }
 {
@@ -43,7 +44,8 @@ fn lay_part(asked: Part, trace: &[u8], plan: &[u8], page: &mut [u8; ROOM]) -> us
     }
 }
 
-// Trace and plan are not read, here and below: they are there so that the bytes can be asked to be their answer.
+// Trace and plan are not read, here and below: they are there so that the bytes can be asked to be their answer. Each print has a
+// function of its own, since what it asks is the promise of what is printed: `page_of`, `Told` or `rated_page`.
 fn print_part<O: Print>(
     out: &O,
     asked: Part,

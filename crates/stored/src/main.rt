@@ -72,7 +72,7 @@ impl Stored {
         let least = fields::number_at::<4>(&self.bytes, self.length);
         let mut plan = [0u8; PLAN];
         let solved = solver::solve(trace, &mut plan);
-        let size = plan::HEAD + (1 + plan::RENT) * trace::requests(trace);
-        solved == Ok(least) && judge::judge(trace, records::first(&plan, size)) == Ok(least)
+        let plan = records::first(&plan, plan::size(trace));
+        solved == Ok(least) && judge::judge(trace, plan) == Ok(least)
     }
 }
