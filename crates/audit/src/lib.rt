@@ -1,4 +1,6 @@
 // The audit of a trace and a plan: total cost, read misses, fills and write hits, or one of refusals 1 to 17.
+// A trace and a plan are two slices in every call, as the C interface lends them: a struct of both
+// would be made for each call and taken apart in it.
 #![tactic(auto)]
 
 ghost use Rattle.std.specs.Prelude.{◌≡◌};

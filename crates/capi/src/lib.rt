@@ -16,7 +16,7 @@ use model::Refusal;
 use ratio::Gap;
 use replay::Totals;
 
-// The code of a refusal: the C interface has one number for it.
+// The code of a refusal: the C interface has one number for it. It is no From, since it asks that the place fits.
 fn code(r: Refusal) -> u64
     requires { Codable (number_of r) (place_of r) }
     ensures { result ≡ number_of r + 256 * place_of r }

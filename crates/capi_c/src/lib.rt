@@ -1,4 +1,5 @@
 // The exports of include/glazepouch.h: each calls the function of its name in capi, and states its clauses again.
+// They are a crate of their own, since a crate is a library or a static library.
 #![tactic(auto)]
 
 ghost use Rattle.std.specs.Prelude.{◌≡◌, length};

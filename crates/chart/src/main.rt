@@ -35,6 +35,7 @@ fn answer<O: Print>(out: &O, trace: &[u8], plan: &[u8]) -> io::Result<()> {
     }
 }
 
+// The words are this program's: `least` and `judge` have their own.
 fn help<R, E: Print>(system: &System<R, E>) {
     system.say(b"usage: chart TRACE PLAN\nfor example: chart samples/V17.trace samples/V17.plan\n");
 }

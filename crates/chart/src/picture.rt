@@ -87,7 +87,8 @@ impl Picture<'_> {
     }
 }
 
-// The next or previous request of request t's item: as many as there are requests for none.
+// The next or previous request of request t's item: as many as there are requests for none. As one with `row` it would be handed the
+// list, the conversion and the number for none, and be no plainer.
 fn place(links: &[u16; Requests::MAX], t: usize) -> usize {
     links
         .get(t)

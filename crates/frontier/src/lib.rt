@@ -1,5 +1,6 @@
 // What a search keeps of the nodes that it has still to look at: a stack of those that it reached at the distance where it stands,
 // and a list of those that wait further off.
+// Numbers are narrowed by `as`: that nothing is lost is proved, and `try_from` would make a Result that is never an Err.
 #![tactic(auto)]
 
 ghost use Rattle.std.specs.Prelude.{◌≡◌, ◌≤◌, length, get_or, take};
@@ -52,7 +53,7 @@ fn sift(dist: &[u32], list: &mut [u16; Frontier::MAX], waiting: usize, current: 
     (kept, low)
 }
 
-// Puts the nodes of a list that are just so far off on the empty stack, and says how many there are.
+// Puts the nodes of a list that are just so far off on the empty stack, and says how many there are: so their places are counted.
 fn gather(dist: &[u32], list: &[u16], low: u64, stack: &mut [u16; Frontier::MAX]) -> usize
     requires { length list.now ≤ 2050 }
     ensures stack_after { stack.new ≡ written (those dist.now low list.now) stack.old }
@@ -69,7 +70,8 @@ fn gather(dist: &[u32], list: &[u16], low: u64, stack: &mut [u16; Frontier::MAX]
 }
 
 impl Frontier {
-    // How many nodes there can be: a point before each request, the last point, and each request.
+    // How many nodes there can be: a point before each request, the last point, and each request. The
+    // crates of the ways and of the worths have this number too: the three know nothing of each other, and model knows of no nodes.
     pub const MAX: usize = 2 * Requests::MAX + 2;
 
     // The distance of an unreached node: its bytes are equal, so that making an array of it is one fill of memory.

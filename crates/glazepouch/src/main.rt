@@ -12,6 +12,7 @@ use std::rt::{Env, Files};
 use words::Command;
 
 // The two buffers serve every command, and each command has a call of its own, so that the solver finds little on the stack.
+// A table of the commands would list the same closures.
 fn main(rt: HostRuntime) {
     let err = rt.stderr();
     let system = System { rt: &rt, err: &err };

@@ -5,7 +5,8 @@ use std::io;
 use std::rt::{Env, Files};
 
 // The least cost of the trace that the first word after the command names; where a word is given that names a file, with a plan of
-// that cost written to it: as a whole or not at all. What can't be loaded or written has been said.
+// that cost written to it: as a whole or not at all. What can't be loaded or written has been said. The four parameters travel once from a
+// call to the next: a struct of them would be made here and taken apart there.
 pub fn solve<R: Files + Env + Print, E: Print>(
     system: &System<R, E>,
     file: Option<usize>,

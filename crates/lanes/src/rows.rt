@@ -1,4 +1,5 @@
 // The rows, given request by request: an item keeps its row while it is held, and a fill takes the first that is free.
+// Numbers are narrowed by `as`: that nothing is lost is proved, and `try_from` would make a Result that is never an Err.
 ghost use Rattle.std.specs.Prelude.{◌≡◌, ◌==◌, position};
 ghost use Rattle.lanes.specs.Steps.{Ready, Turn, place_by, Laying};
 

@@ -39,7 +39,8 @@ pub fn refused(r: Refusal, line: &mut [u8; ROOM]) -> usize
     refusal(r.number(), r.place(), line)
 }
 
-// `refused N at P` of two numbers. Refusal's Display prints the same, but to a formatter: the clause `Lies` names bytes in the lent array.
+// `refused N at P` of two numbers, which may be no refusal's: so all that could be laid before still can. Refusal's Display prints the
+// same, but to a formatter: the clause `Lies` names bytes in the lent array.
 pub fn refusal(number: u64, place: u64, line: &mut [u8; ROOM]) -> usize
     ensures { Lies (refused_line number place) line.old result line.new }
 {

@@ -1,4 +1,6 @@
 // The next request of each request, found through chains of the requests whose items are equal modulo their count n.
+// The chains are places in two fixed lists, and no map: nothing here uses the heap.
+// Numbers are narrowed by `as`: that nothing is lost is proved, and `try_from` would make a Result that is never an Err.
 ghost use Rattle.std.specs.Prelude.{◌≡◌, suc, ◌<◌, length};
 ghost use Rattle.links.specs.Chains.{First, item_in, bucket_in, Room, Ready, Nexts};
 

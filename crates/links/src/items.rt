@@ -1,4 +1,5 @@
 // The items of a trace's requests, read once.
+// Numbers are narrowed by `as`: that nothing is lost is proved, and `try_from` would make a Result that is never an Err.
 ghost use Rattle.std.specs.Prelude.{◌≤◌};
 ghost use Rattle.model.specs.Numbers.{max_requests};
 ghost use Rattle.links.specs.Chains.{Read};

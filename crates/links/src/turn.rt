@@ -1,4 +1,5 @@
 // The previous requests, from the next ones.
+// Numbers are narrowed by `as`: that nothing is lost is proved, and `try_from` would make a Result that is never an Err.
 ghost use Rattle.std.specs.Prelude.{length};
 ghost use Rattle.links.specs.Chains.{Single, Undoes};
 

@@ -1,5 +1,6 @@
 // Plan files: the refusals 9 to 12 on top of a trace's, the stated cost, and the flags and rents as parts of the plan's own bytes.
 // It knows nothing of what flags and rents mean.
+// Numbers are narrowed by `as`: that nothing is lost is proved, and `try_from` would make a Result that is never an Err.
 #![tactic(auto)]
 
 ghost use Rattle.std.specs.Prelude.{◌≡◌, ◌+◌, ◌<◌, get_or};

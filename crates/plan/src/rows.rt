@@ -7,7 +7,8 @@ ghost use Rattle.plan.specs.PlanFile.{marked_plan, plan_tried};
 use crate::HEAD;
 use model::Refusal;
 
-// Whether the mark, the version and the zero byte are right.
+// Whether the mark, the version and the zero byte are right. Trace's has another mark and no zero byte: what both have is one test
+// of a version.
 pub fn marked(plan: &[u8]) -> bool
     ensures { result ≡ marked_plan plan.now }
 {

@@ -17,7 +17,8 @@ pub fn head(slots: u8, requests: u16, fill: u32) -> [u8; 12]
     [b'C', b'T', b'R', 1, 0, slots, n0, n1, f0, f1, f2, f3]
 }
 
-// One request: its item, its kind (0 read, 1 write) and its cost.
+// One request: its item, its kind (0 read, 1 write) and its cost. The kind may be any byte, so that a trace that breaks its row can be
+// made too.
 #[tactic(auto, unfolding(fields::specs::Bytes::bytes_of))]
 pub fn record(item: u16, kind: u8, cost: u32) -> [u8; 8]
     ensures { result ≡ record_of item kind cost }

@@ -32,7 +32,7 @@ pub struct Step {
 }
 
 impl Step {
-    // Which word tells its row, in the order in which a line has them.
+    // Which word tells its row, in the order in which a line has them: a number, since a text's sign takes one.
     pub fn word(&self) -> u64
         ensures { result ≡ word_of self.now.row }
     {

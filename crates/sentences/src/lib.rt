@@ -18,6 +18,7 @@ use pages::Page;
 pub const ROOM: usize = 256;
 
 // How far a text's signs are read. The page is lent beside it: two structs deep, what the caller's bytes hold at the end gets no proof.
+// That its counts can grow by one is asked by each method and is no invariant: a sign that is read uses it up.
 #[derive(Clone, Copy)]
 struct Pen {
     // How many numbers are taken.
@@ -56,7 +57,7 @@ pub fn refusal(r: Refusal, slots: u64, page: &mut [u8; ROOM]) -> usize
     sentence(r.number(), r.place(), slots, page)
 }
 
-// The same of two numbers.
+// The same of two numbers, which may be no refusal's: so all that could be laid before still can.
 pub fn sentence(number: u64, place: u64, slots: u64, page: &mut [u8; ROOM]) -> usize
     ensures { Lies (refusal_page number place slots) page.old result page.new }
 {

@@ -1,4 +1,5 @@
 // The solver: for every sound trace a plan that the judge accepts. It uses only the promises of the lower crates.
+// Its lists are fixed arrays: nothing here uses the heap.
 #![tactic(auto)]
 
 ghost use Rattle.solver.specs.Solve.{Promise};

@@ -1,4 +1,5 @@
 // From the lists of a sound trace to the plan in the buffer.
+// Numbers are narrowed by `as`: that nothing is lost is proved, and `try_from` would make a Result that is never an Err.
 ghost use Rattle.std.specs.Prelude.{◌≡◌, List, ℕ, replicate};
 ghost use Rattle.trace.specs.Answers.{header_in};
 ghost use Rattle.steps.specs.Ready.{Ready};

@@ -1,6 +1,7 @@
 // The search for the shortest ways back from the last point, until point 0 is reached. Nearly all ways are of length 0, so most
 // nodes are reached at the distance where the search stands: those go on a stack. The others wait in a list, which is looked
 // through for its least distance only when the stack is empty.
+// Numbers are narrowed by `as`: that nothing is lost is proved, and `try_from` would make a Result that is never an Err.
 ghost use Rattle.std.specs.Prelude.{◌≡◌, suc, ◌*◌, ◌-◌, ◌<◌, replicate};
 ghost use Rattle.frontier.specs.Frontier.{far, desk_of};
 ghost use Rattle.steps.specs.Search.{ways_by, Runs, Graph, Finds};

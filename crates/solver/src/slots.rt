@@ -1,4 +1,5 @@
 // One slot after the other.
+// Numbers are narrowed by `as`: that nothing is lost is proved, and `try_from` would make a Result that is never an Err.
 ghost use Rattle.std.specs.Prelude.{suc, ◌≤◌, ◌<◌};
 ghost use Rattle.steps.specs.Slots.{Laid, Cheap};
 
@@ -20,7 +21,8 @@ pub struct Lists<'a> {
     pub charges: &'a [u32; Requests::MAX],
 }
 
-// The slots that are laid: the worths of points and requests, and the flags that fit together with them.
+// The slots that are laid: the worths of points and requests, and the flags that fit together with them. `Laid` is no field of it: it
+// speaks of the lists as well, and of how many slots are laid, which `more` raises.
 #[derive(Drop)]
 pub struct Slots {
     pub worth: [u32; worths::PLACES],

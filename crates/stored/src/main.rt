@@ -9,14 +9,16 @@
 use std::io;
 use std::io::Read;
 
-// How long the longest stored trace is, which has twelve requests, with its cost after it, and a plan for it.
+// How long the longest stored trace is, which has twelve requests, with its cost after it, and a plan for it. Each program of cases
+// has its own longest one, and so its own lengths.
 const TRACE: usize = 108;
 
 const STORED: usize = 112;
 
 const PLAN: usize = 76;
 
-// A stored trace of this length, and the four bytes of its cost.
+// A stored trace of this length, and the four bytes of its cost. The length stands beside the bytes, which have a fixed room: nothing
+// here uses the heap.
 #[derive(Drop)]
 struct Stored {
     bytes: [u8; STORED],

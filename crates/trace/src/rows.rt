@@ -26,7 +26,7 @@ pub fn zero(trace: &[u8], t: usize) -> u64
     fields::byte_at(trace, record_at(trace, t) + 3)
 }
 
-// Whether the mark and the version are right.
+// Whether the mark and the version are right. Plan's has another mark and a zero byte more: what both have is one test of a version.
 pub fn marked(trace: &[u8]) -> bool
     ensures { result ≡ marked_trace trace.now }
 {

@@ -5,11 +5,11 @@ use native.Mathlib.Omega.{arith}
 use mathlib.Core.Bool.{cond}
 use mathlib.Core.List.{List, ◌++◌}
 use lib.ListN.{length, get_or, drop}
-use lib.Dec.{ltb}
-use borrow.Author.Tests.{ltb-true, ltb-false, le-ltb}
+use lib.Dec.{ltb, eqb}
+use borrow.Author.Tests.{ltb-true, ltb-false, le-ltb, lt-ltb}
 use Rattle.model.proofs.Sums.{split}
 use Rattle.trace.specs.TraceFile.{requests_at}
-use Rattle.ways.specs.Ways.{point_source, request_source, source_by, charge_at, length_by}
+use Rattle.ways.specs.Ways.{point_source, request_source, source_by, charge_at, length_by, behind_of, held_by}
 use Rattle.ways.specs.Promise.{rows, listed, laid_of, Sourced, Charged, Measured}
 use Rattle.ways.proofs.Rows.{row_at, listed_at}
 
@@ -92,3 +92,10 @@ module _ {n fill k : ℕ} {from charges flags worth len len' : List ℕ} (m : Me
   -- any two answers that the promise permits coincide
   pub measured_unique : {other : List ℕ} → Measured n fill k from charges flags worth len other → len' ≡ other
   measured_unique o = m.laid ∙ sym o.laid
+
+-- ---- what is held
+
+module _ (flags from : List ℕ) (n t b : ℕ) (same : b ≡ behind_of from n t) where
+  -- whether an item is held before a request is the flag of its previous request
+  pub held_is : n < b → b < n + 1 + t → eqb (get_or flags (b - (n + 1)) 0) 1 ≡ held_by flags from n t
+  held_is h l = rw (← same, lt-ltb n b h, lt-ltb b (n + 1 + t) l)

@@ -14,7 +14,8 @@ mod origins;
 mod paid;
 mod turns;
 
-// How many nodes a list has room for: a point before each request, the last point, and each request.
+// How many nodes a list has room for: a point before each request, the last point, and each request. The crates of the
+// ways, of the worths and of the search know nothing of each other, and model knows of no nodes: so each has this number.
 pub const NODES: usize = 2 * Requests::MAX + 2;
 
 // How many places a list of ways has: three for each node.

@@ -1,4 +1,5 @@
 // Where the ways into the nodes come from.
+// Numbers are narrowed by `as`: that nothing is lost is proved, and `try_from` would make a Result that is never an Err.
 ghost use Rattle.std.specs.Prelude.{◌≡◌, suc, ◌+◌, ◌-◌, ◌≤◌, ◌<◌, cond, ltb};
 ghost use Rattle.ways.specs.Ways.{point_source, request_source};
 ghost use Rattle.ways.specs.Parts.{put_both};

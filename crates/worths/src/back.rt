@@ -1,4 +1,5 @@
 // The worths at the start, told from the last request back.
+// Numbers are narrowed by `as`: that nothing is lost is proved, and `try_from` would make a Result that is never an Err.
 ghost use Rattle.std.specs.Prelude.{◌≡◌, ◌≤◌, ◌<◌};
 ghost use Rattle.worths.specs.Worths.{gain_by, ahead_by, point_by, Told};
 

@@ -1,6 +1,8 @@
 // The worths of points and requests, in a list: where they start, how they are raised, what rents they name.
 // Of a trace of n requests point g stands at place g, up to point n, and request t at place n + 1 + t.
 // It knows nothing of flags and of ways.
+// Numbers are narrowed by `as`: that nothing is lost is proved, and `try_from` would make a Result that is never an Err.
+// The list is flat, and distances stand in another: `Started`, `Raised` and `Rented` speak of each list.
 #![tactic(auto)]
 
 ghost use Rattle.worths.specs.Worths.{Started, Raised, Rented};
@@ -12,7 +14,8 @@ mod back;
 // The greatest worth of a point or a request: it fits four bytes.
 pub const MAX: u32 = u32::MAX;
 
-// How many places a list of worths has: enough for a point before each request, the last point, and each request.
+// How many places a list of worths has: enough for a point before each request, the last point, and each request. The crates of the
+// ways, of the worths and of the search know nothing of each other, and model knows of no nodes: so each has this number.
 pub const PLACES: usize = 2 * Requests::MAX + 2;
 
 // The worths that fit no flags and no slots, told from the last request back by the list of next requests; the rest is kept. All is
@@ -27,7 +30,8 @@ pub fn start(trace: &[u8], next: &[u16; Requests::MAX], worth: &mut [u32; PLACES
 }
 
 // Each worth before place `nodes` grows by what its distance is short of d; the rest is kept. It is stored only where it grows: wide
-// arithmetic on all of them is slow where the program runs under an emulator.
+// arithmetic on all of them is slow where the program runs under an emulator. To go through both lists at once they would be cut and
+// zipped, which is no plainer.
 pub fn raise(dist: &[u32; PLACES], nodes: usize, d: u64, worth: &mut [u32; PLACES])
     ensures { Raised dist.now nodes d worth.old worth.new }
 {
@@ -39,7 +43,7 @@ pub fn raise(dist: &[u32; PLACES], nodes: usize, d: u64, worth: &mut [u32; PLACE
     }
 }
 
-// The rents that the worths of points name, in the first n places; the rest is kept.
+// The rents that the worths of points name, in the first n places; the rest is kept. Each place is read with the next one.
 pub fn rents(worth: &[u32; PLACES], n: usize, rents: &mut [u32; Requests::MAX])
     ensures { Rented worth.now n rents.old rents.new }
 {
