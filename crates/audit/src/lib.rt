@@ -3,9 +3,12 @@
 // would be made for each call and taken apart in it.
 #![tactic(auto)]
 
-ghost use Rattle.std.specs.Prelude.{◌≡◌};
+ghost use Rattle.std.specs.Prelude.{◌≡◌, min, take};
+ghost use Rattle.model.specs.Numbers.{max_requests};
 ghost use Rattle.model.specs.Refusals.{passes, answered};
-ghost use Rattle.plan.specs.PlanFile.{section_tried};
+ghost use Rattle.trace.specs.TraceFile.{requests_at};
+ghost use Rattle.plan.specs.PlanFile.{section_tried, rents_of};
+ghost use Rattle.plan.specs.Reading.{rents_into};
 ghost use Rattle.audit.specs.Audit.{plan_rents, rents_read, audit_of};
 
 use model::{Refusal, Requests};
@@ -21,16 +24,20 @@ pub fn audit(trace: &[u8], plan: &[u8]) -> Result<Totals, Refusal>
         return Err(Refusal::StatedCost);
     }
     let mut room = [0; Requests::MAX];
-    plan::check_rents(rents(trace, plan, &mut room))?;
+    let n = rents(trace, plan, &mut room);
+    plan::check_rents(&room[..n])?;
     Ok(totals)
 }
 
-// The rents of a plan as numbers, in the room that is lent: one for each request, if none of refusals 1 to 12 holds, and else what
-// stood there.
-pub fn rents<'a>(trace: &[u8], plan: &[u8], room: &'a mut [u32; Requests::MAX]) -> &'a [u32]
-    ensures read { result.now ≡ rents_read trace.now plan.now room.old }
-    ensures sound { section_tried trace.now plan.now ≡ passes → result.now ≡ plan_rents trace.now plan.now }
+// Reads the rents of a plan as numbers into the room that is lent, and answers how many there are: one for each request, if none of
+// refusals 1 to 12 holds. The rest of the room is kept, and all of it where one holds.
+#[tactic(auto, using(crate::proofs::Parts::rents_first))]
+pub fn rents(trace: &[u8], plan: &[u8], room: &mut [u32; Requests::MAX]) -> usize
+    ensures count { result ≡ min (requests_at trace.now) max_requests }
+    ensures room_after { room.new ≡ rents_into (rents_of trace.now plan.now) room.old }
+    ensures read { take result room.new ≡ rents_read trace.now plan.now room.old }
+    ensures sound { section_tried trace.now plan.now ≡ passes → take result room.new ≡ plan_rents trace.now plan.now }
 {
     plan::read_rents(plan::rents(trace, plan), room);
-    &room[..trace::requests(trace).min(Requests::MAX)]
+    trace::requests(trace).min(Requests::MAX)
 }
