@@ -48,18 +48,20 @@ pub struct Price {
     pub held: u64,
 }
 
-// The least prices of the items, added up; `all` is the sum of all rents. The list holds the prices of each request passed.
+// The least prices of the items, added up; `all` is the sum of all rents. The list holds the prices of each request passed, and at the
+// place past the last one what is to be paid from the end on: nothing, with all rents before it.
 pub fn leasts(trace: &[u8], rents: &[u32], next: &[u16; Requests::MAX], all: u64) -> u64
     requires { Ready trace.now rents.now next.now × (all ≡ paid_to (rents_in rents.now) (length rents.now)) }
     ensures { result ≡ leastsOf (trace_in trace.now) (rents_in rents.now) }
 {
-    let past = Price { out: 0, held: all };
-    let mut prices = [past; Requests::MAX];
+    let n = trace::requests(trace);
+    let mut prices = [Price { out: 0, held: 0 }; Requests::MAX + 1];
+    prices[n] = Price { out: 0, held: all };
     let mut total: u64 = 0;
     let mut paid = all;
-    for t in (0..trace::requests(trace)).rev() {
+    for t in (0..n).rev() {
         let before = paid - u64::from(rents[t]);
-        let after = prices.get(usize::from(next[t])).copied().unwrap_or(past);
+        let after = prices[usize::from(next[t])];
         let kept = after.held - before;
         let miss = from_out(trace, t, after.out, kept);
         let hold = from_in(trace, t, after.out, kept);
