@@ -5,9 +5,9 @@
 
 ghost use Rattle.std.specs.Prelude.{◌≡◌, min, take};
 ghost use Rattle.model.specs.Numbers.{max_requests};
-ghost use Rattle.model.specs.Refusals.{passes, answered};
+ghost use Rattle.model.specs.Refusals.{said, passes, answered};
 ghost use Rattle.trace.specs.TraceFile.{requests_at};
-ghost use Rattle.plan.specs.PlanFile.{section_tried, rents_of};
+ghost use Rattle.plan.specs.PlanFile.{section_tried, rents_of, rents_tried};
 ghost use Rattle.plan.specs.Reading.{rents_into};
 ghost use Rattle.audit.specs.Audit.{plan_rents, rents_read, audit_of};
 
@@ -23,10 +23,18 @@ pub fn audit(trace: &[u8], plan: &[u8]) -> Result<Totals, Refusal>
     if plan::stated_cost(plan) != totals.total {
         return Err(Refusal::StatedCost);
     }
+    check_rents(trace, plan)?;
+    Ok(totals)
+}
+
+// Row 17 of a plan. The room for its rents is made here, so that what is refused by another row does without.
+fn check_rents(trace: &[u8], plan: &[u8]) -> Result<(), Refusal>
+    requires { section_tried trace.now plan.now ≡ passes }
+    ensures { said result ≡ rents_tried 0 (plan_rents trace.now plan.now) }
+{
     let mut room = [0; Requests::MAX];
     let n = rents(trace, plan, &mut room);
-    plan::check_rents(&room[..n])?;
-    Ok(totals)
+    plan::check_rents(&room[..n])
 }
 
 // Reads the rents of a plan as numbers into the room that is lent, and answers how many there are: one for each request, if none of
