@@ -27,7 +27,7 @@ pub fn audit(trace: &[u8], plan: &[u8]) -> Result<Totals, Refusal>
     Ok(totals)
 }
 
-// Row 17 of a plan. The room for its rents is made here, so that what is refused by another row does without.
+// Row 17 of a plan. The room for its rents is cleared only here, once all other rows have passed.
 fn check_rents(trace: &[u8], plan: &[u8]) -> Result<(), Refusal>
     requires { section_tried trace.now plan.now ≡ passes }
     ensures { said result ≡ rents_tried 0 (plan_rents trace.now plan.now) }
@@ -37,8 +37,8 @@ fn check_rents(trace: &[u8], plan: &[u8]) -> Result<(), Refusal>
     plan::check_rents(&room[..n])
 }
 
-// Reads the rents of a plan as numbers into the room that is lent, and answers how many there are: one for each request, if none of
-// refusals 1 to 12 holds. The rest of the room is kept, and all of it where one holds.
+// Reads the rents of a plan as numbers into the room that is lent, and answers for how many requests: as many as the trace states, and
+// no more than there is room for. The rest of the room is kept, and all of it where one of refusals 1 to 12 holds.
 #[tactic(auto, using(crate::proofs::Parts::rents_first))]
 pub fn rents(trace: &[u8], plan: &[u8], room: &mut [u32; Requests::MAX]) -> usize
     ensures count { result ≡ min (requests_at trace.now) max_requests }

@@ -89,7 +89,7 @@ module _ {trace rents next : List ℕ} (ready : Ready trace rents next) where
         small = omega arith;
       }
 
-  -- one more request, number t: its rent x, its next u, and what the lists hold there
+  -- one more request, number t: its rent x, its next u, and what the list holds there
   module _ {prices : List Price} {after : Price} {total paid t x u : ℕ} (p : Passed trace rents prices total paid (suc t))
       (ex : x ≡ get_or rents t 0) (eu : u ≡ get_or next t 0) (ea : after ≡ get_or prices u (record { out = 0; held = 0 })) where
     en : after.out ≡ (get_or prices u (record { out = 0; held = 0 })).out
