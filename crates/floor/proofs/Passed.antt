@@ -139,9 +139,15 @@ module _ {trace rents next : List ℕ} (ready : Ready trace rents next) where
         }
 
     -- the request's two prices, by the code's equations
-    module _ {miss hold : ℕ}
-        (em : miss ≡ cond (eqb (kind_at trace t) 1) after.out (cost_at trace t + min after.out (fill_at trace + (after.held - (paid - x)))))
-        (eo : hold ≡ cond (eqb (kind_at trace t) 1) (cost_at trace t) 0 + min after.out (after.held - (paid - x))) where
+    module _ {miss hold none kept : ℕ} (none_out : none ≡ after.out) (kept_held : kept ≡ after.held)
+        (missed : miss ≡ cond (eqb (kind_at trace t) 1) none (cost_at trace t + min none (fill_at trace + (kept - (paid - x)))))
+        (held : hold ≡ cond (eqb (kind_at trace t) 1) (cost_at trace t) 0 + min none (kept - (paid - x))) where
+      em : miss ≡ cond (eqb (kind_at trace t) 1) after.out (cost_at trace t + min after.out (fill_at trace + (after.held - (paid - x))))
+      em = rw (none_out, kept_held) at missed
+
+      eo : hold ≡ cond (eqb (kind_at trace t) 1) (cost_at trace t) 0 + min after.out (after.held - (paid - x))
+      eo = rw (none_out, kept_held) at held
+
       pub record Done : Type 0 where
         pub miss-is : miss ≡ own_in trace rents t false
         pub hold-is : hold ≡ own_in trace rents t true

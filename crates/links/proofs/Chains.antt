@@ -5,7 +5,7 @@ use native.Mathlib.Omega.{arith}
 use native.Mathlib.Nat.{mod-lt}
 use native.Mathlib.Decide.{dec_lt}
 use mathlib.Core.List.{List}
-use lib.ListN.{length, get_or, set, length-set}
+use lib.ListN.{length, get_or, set, replicate, length-set, length-replicate, get_or-replicate}
 use lib.Seq.{get_or-set_same, get_or-set_other}
 use lib.Dec.{eqb}
 use borrow.Author.Tests.{eqb-true, eqb-false}
@@ -52,15 +52,15 @@ module _ {n t : ℕ} where
     ];
   }
 
-pub link_starts : {items next chain head : List ℕ} {n : ℕ} → Room items next chain n → length head ≡ max_requests
-    → ((b : ℕ) → b < n → get_or head b 0 ≡ n) → Linking items next chain head next chain n n
-link_starts {items} {next} {chain} {head} {n} room long none = record {
+pub link_starts : {items next chain : List ℕ} {n : ℕ} → Room items next chain n
+    → Linking items next chain (replicate max_requests n) next chain n n
+link_starts {items} {next} {chain} {n} room = record {
   upto = omega arith;
-  long_head = long;
+  long_head = length-replicate max_requests n;
   long_next = refl;
   long_chain = refl;
   heads = record {
-    on = λ v l. rw (none v l) (record {
+    on = λ v l. rw (get_or-replicate max_requests v n 0 (omega arith)) (record {
       from = omega arith;
       upto = omega arith;
       has = λ m. absurd (omega arith);

@@ -30,14 +30,13 @@ pub fn walk(items: &[u16], chain: &[u16], t: usize, start: usize) -> usize
     j
 }
 
-// The next request of each request, from the last to the first; the chains are laid in `chain`, and `head` is lent for the first
-// request of each bucket.
-pub fn link(items: &[u16], next: &mut [u16], chain: &mut [u16], head: &mut [u16; Requests::MAX])
+// The next request of each request, from the last to the first; the chains are laid in `chain`.
+pub fn link(items: &[u16], next: &mut [u16], chain: &mut [u16])
     requires { Room items.now next.old chain.old (length items.now) }
     ensures { Nexts items.now next.new (length items.now) 0 }
 {
     let n = items.len();
-    head.fill(n as u16);
+    let mut head = [n as u16; Requests::MAX];
     for t in (0..n).rev() {
         let b = bucket(items, t);
         let j = head[b];

@@ -22,27 +22,14 @@ pub struct Links {
     pub prev: [u16; Requests::MAX],
 }
 
-// The lists that the links are found with: the items of the requests, and the first request of each bucket. They are one struct, so
-// that both stand in one place of the caller's stack, which another list takes afterwards.
-#[derive(Drop)]
-struct Workshop {
-    items: [u16; Requests::MAX],
-    head: [u16; Requests::MAX],
-}
-
 // Lays the links of these items in front of the two lists.
-fn lay(
-    items: &[u16],
-    head: &mut [u16; Requests::MAX],
-    next: &mut [u16; Requests::MAX],
-    prev: &mut [u16; Requests::MAX],
-)
+fn lay(items: &[u16], next: &mut [u16; Requests::MAX], prev: &mut [u16; Requests::MAX])
     requires { length items.now ≤ max_requests }
     ensures { Laid items.now next.old prev.old next.new prev.new }
 {
     let next = &mut next[..items.len()];
     let prev = &mut prev[..items.len()];
-    chain::link(items, next, prev, head);
+    chain::link(items, next, prev);
     turn::turn(next, prev);
 }
 
@@ -65,13 +52,10 @@ impl Links {
         ensures { Filled trace.now self.old.next self.old.prev result self.new.next self.new.prev }
     {
         let header = trace::check(trace)?;
-        let mut found = Workshop {
-            items: [0; Requests::MAX],
-            head: [0; Requests::MAX],
-        };
-        let items = &mut found.items[..header.requests];
+        let mut room = [0; Requests::MAX];
+        let items = &mut room[..header.requests];
         items::read(trace, items);
-        lay(items, &mut found.head, &mut self.next, &mut self.prev);
+        lay(items, &mut self.next, &mut self.prev);
         Ok(header)
     }
 }

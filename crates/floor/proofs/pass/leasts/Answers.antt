@@ -5,6 +5,7 @@ use mathlib.Core.List.{List}
 use lib.ListN.{length, replicate, length-set, length-replicate}
 use lib.Seq.{get_or-set_same}
 use Rattle.floor.specs.declared.pass.Price.{Price}
+use Rattle.floor.proofs.Lists.{paid_top}
 use Rattle.floor.proofs.Passed.{past, passed_start, passed_all, at_suc, Due, due, Done, done, passed-step}
 use Rattle.floor.proofs.pass.leasts.Goals as goal
 use Rattle.floor.proofs.pass.leasts.Goals.{After-from-in-loop-t, After-from_in-hold}
@@ -14,8 +15,8 @@ known : (c : After-from-in-loop-t) → Due c.requires.0 (at_suc c.loop-t.invaria
 known c = due c.requires.0 (at_suc c.loop-t.invariant c.loop-t-test.true) c.from.ensures c.from-in-loop-t.ensures refl
 
 -- and once the request has its two prices
-priced : (c : After-from_in-hold) → Done c.requires.0 (at_suc c.loop-t.invariant c.loop-t-test.true) c.from.ensures c.from-in-loop-t.ensures refl c.from_out-miss.ensures c.from_in-hold.ensures
-priced c = done c.requires.0 (at_suc c.loop-t.invariant c.loop-t-test.true) c.from.ensures c.from-in-loop-t.ensures refl c.from_out-miss.ensures c.from_in-hold.ensures
+priced : (c : After-from_in-hold) → Done c.requires.0 (at_suc c.loop-t.invariant c.loop-t-test.true) c.from.ensures c.from-in-loop-t.ensures refl c.from-none.ensures c.from-held.ensures c.from_out-miss.ensures c.from_in-hold.ensures
+priced c = done c.requires.0 (at_suc c.loop-t.invariant c.loop-t-test.true) c.from.ensures c.from-in-loop-t.ensures refl c.from-none.ensures c.from-held.ensures c.from_out-miss.ensures c.from_in-hold.ensures
 
 pub loop-t-init : goal.loop-t-init
 loop-t-init c =
@@ -29,27 +30,40 @@ pub bounds-prices-from : goal.bounds-prices-from
 bounds-prices-from c = (known c).next_place
 
 pub overflow_sub-kept : goal.overflow_sub-kept
-overflow_sub-kept c = (known (goal.at.overflow_sub-kept c).After-from-in-loop-t).below
+overflow_sub-kept c = rw c.from-held.ensures (known (goal.at.overflow_sub-kept c).After-from-in-loop-t).below
 
 pub from_out-miss-requires : goal.from_out-miss-requires
-from_out-miss-requires c = omega (arith, known (goal.at.from_out-miss-requires c).After-from-in-loop-t)
+from_out-miss-requires c = omega (arith, known (goal.at.from_out-miss-requires c).After-from-in-loop-t, c.from-none.ensures, c.from-held.ensures)
 
 pub from_in-hold-requires : goal.from_in-hold-requires
-from_in-hold-requires c = omega (arith, known (goal.at.from_in-hold-requires c).After-from-in-loop-t)
+from_in-hold-requires c = omega (arith, known (goal.at.from_in-hold-requires c).After-from-in-loop-t, c.from-none.ensures, c.from-held.ensures)
 
 pub overflow_add-total : goal.overflow_add-total
-overflow_add-total c = omega (arith, known (goal.at.overflow_add-total c).After-from-in-loop-t, priced c)
+overflow_add-total c = omega (arith, c.from-none.ensures, known (goal.at.overflow_add-total c).After-from-in-loop-t, priced c)
 
 pub overflow_sub-total : goal.overflow_sub-total
-overflow_sub-total c = omega (arith, priced (goal.at.overflow_sub-total c).After-from_in-hold)
+overflow_sub-total c = omega (arith, c.from-none.ensures, priced (goal.at.overflow_sub-total c).After-from_in-hold)
 
 pub overflow_add-prices : goal.overflow_add-prices
 overflow_add-prices c = omega (arith, known (goal.at.overflow_add-prices c).After-from-in-loop-t, priced (goal.at.overflow_add-prices c).After-from_in-hold)
 
+pub overflow_cast-prices : goal.overflow_cast-prices
+overflow_cast-prices c =
+    let q = paid_top c.args.rents.now 2000000 (length c.args.rents.now) c.requires.0.within in
+    omega (arith, q, c.requires.0.sound.requests, c.requires.0.count, c.requires.1)
+
+pub overflow_cast-prices-in-loop-t : goal.overflow_cast-prices-in-loop-t
+overflow_cast-prices-in-loop-t c =
+    omega (arith, known (goal.at.overflow_cast-prices-in-loop-t c).After-from-in-loop-t, priced (goal.at.overflow_cast-prices-in-loop-t c).After-from_in-hold)
+
+pub overflow_cast-prices-in-loop-t-2 : goal.overflow_cast-prices-in-loop-t-2
+overflow_cast-prices-in-loop-t-2 c =
+    omega (arith, known (goal.at.overflow_cast-prices-in-loop-t-2 c).After-from-in-loop-t, priced (goal.at.overflow_cast-prices-in-loop-t-2 c).After-from_in-hold)
+
 pub loop-t-preserved : goal.loop-t-preserved
 loop-t-preserved c =
-    passed-step c.requires.0 (at_suc c.loop-t.invariant c.loop-t-test.true) c.from.ensures c.from-in-loop-t.ensures refl
-    c.from_out-miss.ensures c.from_in-hold.ensures
+    rw c.from-none.ensures (passed-step c.requires.0 (at_suc c.loop-t.invariant c.loop-t-test.true) c.from.ensures c.from-in-loop-t.ensures refl
+    c.from-none.ensures c.from-held.ensures c.from_out-miss.ensures c.from_in-hold.ensures)
 
 pub returns : goal.returns
 returns c =

@@ -20,6 +20,9 @@ slice_bounds-items-end c =
     let f = few_requests _ _ c.in_ok-header.ensures in
     sym (length-take-le c.in_ok-header.header.requests (replicate max_requests 0) (omega (arith, length-replicate {A = ℕ} max_requests 0)))
 
+pub slice_bounds-room-end : goal.slice_bounds-room-end
+slice_bounds-room-end c = few_requests _ _ c.in_ok-header.ensures
+
 pub lay-requires : goal.lay-requires
 lay-requires c =
     let f = few_requests _ _ c.in_ok-header.ensures in

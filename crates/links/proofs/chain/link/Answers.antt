@@ -1,10 +1,8 @@
-use borrow.Author.Rules.{rules}
 use Rattle.links.proofs.Chains.{link_starts, link_back, link_steps}
 use Rattle.links.proofs.chain.link.Goals as goal
 
 pub loop-t-init : goal.loop-t-init
-loop-t-init c =
-    link_starts c.requires (search rules) (λ b l. search rules)
+loop-t-init c = link_starts c.requires
 
 pub loop-t-preserved : goal.loop-t-preserved
 loop-t-preserved c =
