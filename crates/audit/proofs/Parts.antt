@@ -4,6 +4,7 @@ use Prim.Native.Nat.{ℕ, zero, suc, ◌*◌, ◌/◌, ◌≤◌}
 use native.Mathlib.Omega.{arith}
 use mathlib.Core.List.{List, [], ◌∷◌}
 use lib.ListN.{length, take, length-take, length-drop}
+use Rattle.std.specs.Prelude.{min}
 use Rattle.model.proofs.Refusals.{next_passes}
 use Rattle.fields.specs.Bytes.{put_front}
 use Rattle.model.specs.Links.{listed}
@@ -56,3 +57,10 @@ module _ (tr pl out part last : List ℕ) (n : ℕ) (h : section_tried tr pl ≡
   rents_lent e =
       let few = (sound_trace tr (section_trace tr pl h)).requests in
       rw (read, e, count) (rents_read tr pl out h (omega arith))
+
+-- also where they are counted up to that many
+pub rents_first : (tr pl out : List ℕ) (n : ℕ) → section_tried tr pl ≡ passes → n ≡ min (requests_at tr) max_requests
+    → length out ≡ max_requests → take n (rents_into (rents_of tr pl) out) ≡ plan_rents tr pl
+rents_first tr pl out n h count room =
+    let few = (sound_trace tr (section_trace tr pl h)).requests in
+    rents_lent tr pl out (rents_of tr pl) (rents_into (rents_of tr pl) out) n h (omega arith) refl (omega arith) refl

@@ -3,9 +3,12 @@
 // would be made for each call and taken apart in it.
 #![tactic(auto)]
 
-ghost use Rattle.std.specs.Prelude.{◌≡◌};
-ghost use Rattle.model.specs.Refusals.{passes, answered};
-ghost use Rattle.plan.specs.PlanFile.{section_tried};
+ghost use Rattle.std.specs.Prelude.{◌≡◌, min, take};
+ghost use Rattle.model.specs.Numbers.{max_requests};
+ghost use Rattle.model.specs.Refusals.{said, passes, answered};
+ghost use Rattle.trace.specs.TraceFile.{requests_at};
+ghost use Rattle.plan.specs.PlanFile.{section_tried, rents_of, rents_tried};
+ghost use Rattle.plan.specs.Reading.{rents_into};
 ghost use Rattle.audit.specs.Audit.{plan_rents, rents_read, audit_of};
 
 use model::{Refusal, Requests};
@@ -20,17 +23,29 @@ pub fn audit(trace: &[u8], plan: &[u8]) -> Result<Totals, Refusal>
     if plan::stated_cost(plan) != totals.total {
         return Err(Refusal::StatedCost);
     }
-    let mut room = [0; Requests::MAX];
-    plan::check_rents(rents(trace, plan, &mut room))?;
+    check_rents(trace, plan)?;
     Ok(totals)
 }
 
-// The rents of a plan as numbers, in the room that is lent: one for each request, if none of refusals 1 to 12 holds, and else what
-// stood there.
-pub fn rents<'a>(trace: &[u8], plan: &[u8], room: &'a mut [u32; Requests::MAX]) -> &'a [u32]
-    ensures read { result.now ≡ rents_read trace.now plan.now room.old }
-    ensures sound { section_tried trace.now plan.now ≡ passes → result.now ≡ plan_rents trace.now plan.now }
+// Row 17 of a plan. The room for its rents is cleared only here, once all other rows have passed.
+fn check_rents(trace: &[u8], plan: &[u8]) -> Result<(), Refusal>
+    requires { section_tried trace.now plan.now ≡ passes }
+    ensures { said result ≡ rents_tried 0 (plan_rents trace.now plan.now) }
+{
+    let mut room = [0; Requests::MAX];
+    let n = rents(trace, plan, &mut room);
+    plan::check_rents(&room[..n])
+}
+
+// Reads the rents of a plan as numbers into the room that is lent, and answers for how many requests: as many as the trace states, and
+// no more than there is room for. The rest of the room is kept, and all of it where one of refusals 1 to 12 holds.
+#[tactic(auto, using(crate::proofs::Parts::rents_first))]
+pub fn rents(trace: &[u8], plan: &[u8], room: &mut [u32; Requests::MAX]) -> usize
+    ensures count { result ≡ min (requests_at trace.now) max_requests }
+    ensures room_after { room.new ≡ rents_into (rents_of trace.now plan.now) room.old }
+    ensures read { take result room.new ≡ rents_read trace.now plan.now room.old }
+    ensures sound { section_tried trace.now plan.now ≡ passes → take result room.new ≡ plan_rents trace.now plan.now }
 {
     plan::read_rents(plan::rents(trace, plan), room);
-    &room[..trace::requests(trace).min(Requests::MAX)]
+    trace::requests(trace).min(Requests::MAX)
 }

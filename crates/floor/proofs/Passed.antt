@@ -7,7 +7,7 @@ use native.Mathlib.Decide.{dec_lt}
 use native.Mathlib.Nat.{le_trans, mul-le-mul}
 use mathlib.Core.Bool.{Bool, true, false, cond}
 use mathlib.Core.List.{List, []}
-use lib.ListN.{length, get_or, set, drop, replicate, length-set, length-drop, length-replicate}
+use lib.ListN.{length, get_or, set, drop, length-set, length-drop}
 use lib.Seq.{get_or-set_same, get_or-set_other}
 use lib.Dec.{eqb, lit≤}
 use Rattle.model.specs.Model.{Request, leasts, rents_all}
@@ -19,7 +19,7 @@ use Rattle.trace.specs.TraceFile.{slots_at, requests_at, fill_at, kind_at, cost_
 use Rattle.trace.proofs.Sound.{reqs_length, req_at}
 use Rattle.floor.specs.Pass.{paid_to, Ready}
 use Rattle.floor.specs.declared.pass.Price.{Price}
-use Rattle.floor.proofs.Lists.{get_d_same, paid_top}
+use Rattle.floor.proofs.Lists.{paid_top}
 use Rattle.floor.proofs.Backward.{paid_mono, rents_paid, drop_past, own_at, leasts_at, back, least_top}
 
 -- the price of request t's own item from the gap before it on, and the prices of all items asked for then
@@ -33,21 +33,21 @@ leasts_in trace rents t = leasts_at (rules_in trace) (rents_in rents) (trace_in 
 abbrev pub past : (all : ℕ) → Price
 past all = record { out = 0; held = all }
 
--- requests t and later are done
-pub record Passed (trace rents : List ℕ) (all : ℕ) (prices : List Price) (total paid t : ℕ) : Type 0 where
+-- requests t and later are done (`d` is what would be read beyond the list, where nothing is)
+pub record Passed (trace rents : List ℕ) (prices : List Price) (total paid t : ℕ) : Type 0 where
   pub upto : t ≤ requests_at trace
-  pub long : length prices ≡ 1024
+  pub long : length prices ≡ 1025
   pub rest : paid ≡ paid_to (rents_in rents) t
-  pub outs : (u : ℕ) → t ≤ u → u ≤ requests_at trace → (get_or prices u (past all)).out ≡ own_in trace rents u false
-  pub helds : (u : ℕ) → t ≤ u → u ≤ requests_at trace → (get_or prices u (past all)).held ≡ own_in trace rents u true + paid_to (rents_in rents) u
+  pub outs : (d : Price) (u : ℕ) → t ≤ u → u ≤ requests_at trace → (get_or prices u d).out ≡ own_in trace rents u false
+  pub helds : (d : Price) (u : ℕ) → t ≤ u → u ≤ requests_at trace → (get_or prices u d).held ≡ own_in trace rents u true + paid_to (rents_in rents) u
   pub sum : total ≡ leasts_in trace rents t
   pub small : total + 1000000 * t ≤ 1000000 * requests_at trace
 
 -- the same of a request that has one before it
-pub at_suc : {trace rents : List ℕ} {all : ℕ} {prices : List Price} {total paid t : ℕ} → Passed trace rents all prices total paid t → 0 < t
-    → Passed trace rents all prices total paid (suc (t - 1))
-at_suc {trace} {rents} {all} {prices} {total} {paid} {t} p h =
-    let q : t ≡ suc (t - 1) = omega arith in subst (λ (k : ℕ). Passed trace rents all prices total paid k) q p
+pub at_suc : {trace rents : List ℕ} {prices : List Price} {total paid t : ℕ} → Passed trace rents prices total paid t → 0 < t
+    → Passed trace rents prices total paid (suc (t - 1))
+at_suc {trace} {rents} {prices} {total} {paid} {t} p h =
+    let q : t ≡ suc (t - 1) = omega arith in subst (λ (k : ℕ). Passed trace rents prices total paid k) q p
 
 module _ {trace rents next : List ℕ} (ready : Ready trace rents next) where
   -- no request's cost is above the limit
@@ -72,30 +72,30 @@ module _ {trace rents next : List ℕ} (ready : Ready trace rents next) where
       let e = ready.nexts t l in
       (omega (arith, k.from), omega (arith, k.upto, reqs_length trace))
 
-  -- where the pass begins
-  pub passed_start : {all : ℕ} → all ≡ paid_to (rents_in rents) (length rents)
-      → Passed trace rents all (replicate 1024 (past all)) 0 all (requests_at trace)
-  passed_start {all} e =
-      let n = requests_at trace in
+  -- where the pass begins, at the end n: what is past the last request stands there
+  pub passed_start : {all n : ℕ} {prices : List Price} → n ≡ requests_at trace → all ≡ paid_to (rents_in rents) (length rents)
+      → length prices ≡ 1025 → ((d : Price) → get_or prices n d ≡ past all) → Passed trace rents prices 0 all n
+  passed_start {all} {n} {prices} en e g h =
       let z : drop n (trace_in trace).reqs ≡ [] = drop_past n (trace_in trace).reqs (omega (arith, reqs_length trace)) in
-      let a : all ≡ paid_to (rents_in rents) n = rw (← ready.count) e in
+      let v : (b : Bool) → own_in trace rents n b ≡ 0 = λ b. rw en (own_end b) in
+      let a : all ≡ paid_to (rents_in rents) n = rw (en, ← ready.count) e in
       record {
         upto = omega arith;
-        long = length-replicate {A = Price} 1024 (past all);
+        long = g;
         rest = a;
-        outs = λ u l m. let q : u ≡ n = omega arith in ap (λ (p : Price). p.out) (get_d_same 1024 u (past all)) ∙ sym (rw q (own_end false));
-        helds = λ u l m. let q : u ≡ n = omega arith in ap (λ (p : Price). p.held) (get_d_same 1024 u (past all)) ∙ (rw q (omega (arith, own_end true)));
+        outs = λ d u l m. let q : u ≡ n = omega arith in rw q (ap (λ (p : Price). p.out) (h d) ∙ sym (v false));
+        helds = λ d u l m. let q : u ≡ n = omega arith in rw q (ap (λ (p : Price). p.held) (h d) ∙ omega (arith, v true));
         sum = rw z;
         small = omega arith;
       }
 
-  -- one more request, number t: its rent x, its next u, and what the lists hold there
-  module _ {all : ℕ} {prices : List Price} {after : Price} {total paid t x u : ℕ} (p : Passed trace rents all prices total paid (suc t))
-      (ex : x ≡ get_or rents t 0) (eu : u ≡ get_or next t 0) (ea : after ≡ get_or prices u (past all)) where
-    en : after.out ≡ (get_or prices u (past all)).out
+  -- one more request, number t: its rent x, its next u, and what the list holds there
+  module _ {prices : List Price} {after : Price} {total paid t x u : ℕ} (p : Passed trace rents prices total paid (suc t))
+      (ex : x ≡ get_or rents t 0) (eu : u ≡ get_or next t 0) (ea : after ≡ get_or prices u (record { out = 0; held = 0 })) where
+    en : after.out ≡ (get_or prices u (record { out = 0; held = 0 })).out
     en = ap (λ (p : Price). p.out) ea
 
-    eh : after.held ≡ (get_or prices u (past all)).held
+    eh : after.held ≡ (get_or prices u (record { out = 0; held = 0 })).held
     eh = ap (λ (p : Price). p.held) ea
 
     next-eq : u ≡ next_of (trace_in trace).reqs t
@@ -104,6 +104,7 @@ module _ {trace rents next : List ℕ} (ready : Ready trace rents next) where
     pub record Due : Type 0 where
       pub place : t < 1024
       pub gap : t < length rents
+      pub next_place : u < 1025
       pub rent : x ≤ paid
       pub left : paid - x ≡ paid_to (rents_in rents) t
       pub none_is : after.out ≡ own_in trace rents u false
@@ -116,8 +117,8 @@ module _ {trace rents next : List ℕ} (ready : Ready trace rents next) where
     pub due : Due
     due =
         let (a, b) = rw (← eu) at (next_range t p.upto) in
-        let v : after.out ≡ own_in trace rents u false = en ∙ p.outs u a b in
-        let w : after.held ≡ own_in trace rents u true + paid_to (rents_in rents) u = eh ∙ p.helds u a b in
+        let v : after.out ≡ own_in trace rents u false = en ∙ p.outs (record { out = 0; held = 0 }) u a b in
+        let w : after.held ≡ own_in trace rents u true + paid_to (rents_in rents) u = eh ∙ p.helds (record { out = 0; held = 0 }) u a b in
         let m = paid_mono (rents_in rents) t u (omega arith) in
         let q = paid_top rents 2000000 u ready.within in
         let f = own_top u false in
@@ -126,6 +127,7 @@ module _ {trace rents next : List ℕ} (ready : Ready trace rents next) where
         record {
           place = omega (arith, p.upto);
           gap = omega (arith, p.upto, ready.count);
+          next_place = omega arith;
           rent = omega (arith, p.rest);
           left = omega (arith, p.rest);
           none_is = v;
@@ -137,9 +139,15 @@ module _ {trace rents next : List ℕ} (ready : Ready trace rents next) where
         }
 
     -- the request's two prices, by the code's equations
-    module _ {miss hold : ℕ}
-        (em : miss ≡ cond (eqb (kind_at trace t) 1) after.out (cost_at trace t + min after.out (fill_at trace + (after.held - (paid - x)))))
-        (eo : hold ≡ cond (eqb (kind_at trace t) 1) (cost_at trace t) 0 + min after.out (after.held - (paid - x))) where
+    module _ {miss hold none kept : ℕ} (none_out : none ≡ after.out) (kept_held : kept ≡ after.held)
+        (missed : miss ≡ cond (eqb (kind_at trace t) 1) none (cost_at trace t + min none (fill_at trace + (kept - (paid - x)))))
+        (held : hold ≡ cond (eqb (kind_at trace t) 1) (cost_at trace t) 0 + min none (kept - (paid - x))) where
+      em : miss ≡ cond (eqb (kind_at trace t) 1) after.out (cost_at trace t + min after.out (fill_at trace + (after.held - (paid - x))))
+      em = rw (none_out, kept_held) at missed
+
+      eo : hold ≡ cond (eqb (kind_at trace t) 1) (cost_at trace t) 0 + min after.out (after.held - (paid - x))
+      eo = rw (none_out, kept_held) at held
+
       pub record Done : Type 0 where
         pub miss-is : miss ≡ own_in trace rents t false
         pub hold-is : hold ≡ own_in trace rents t true
@@ -167,7 +175,7 @@ module _ {trace rents next : List ℕ} (ready : Ready trace rents next) where
             hold-top = le_trans (rw i (omega arith)) (own_top t true);
           }
 
-      pub passed-step : Passed trace rents all (set prices t (record { out = miss; held = hold + (paid - x) })) (total + miss - after.out) (paid - x) t
+      pub passed-step : Passed trace rents (set prices t (record { out = miss; held = hold + (paid - x) })) (total + miss - after.out) (paid - x) t
       passed-step =
           let d = due in
           let k = done in
@@ -175,21 +183,21 @@ module _ {trace rents next : List ℕ} (ready : Ready trace rents next) where
             upto = omega (arith, p.upto);
             long = simp length-set p.long;
             rest = d.left;
-            outs = λ v l m. elim (dec_lt t v) [
-              | yes z ↦ ap (λ (p : Price). p.out) (get_or-set_other prices t v (record { out = miss; held = hold + (paid - x) }) (past all) (λ q. omega arith)) ∙ p.outs v z m
-              | no z ↦ let q : v ≡ t = omega arith in rw q (ap (λ (p : Price). p.out) (get_or-set_same prices t (record { out = miss; held = hold + (paid - x) }) (past all) (omega (arith, p.long, d.place))) ∙ k.miss-is)
+            outs = λ e v l m. elim (dec_lt t v) [
+              | yes z ↦ ap (λ (p : Price). p.out) (get_or-set_other prices t v (record { out = miss; held = hold + (paid - x) }) e (λ q. omega arith)) ∙ p.outs e v z m
+              | no z ↦ let q : v ≡ t = omega arith in rw q (ap (λ (p : Price). p.out) (get_or-set_same prices t (record { out = miss; held = hold + (paid - x) }) e (omega (arith, p.long, d.place))) ∙ k.miss-is)
             ];
-            helds = λ v l m. elim (dec_lt t v) [
-              | yes z ↦ ap (λ (p : Price). p.held) (get_or-set_other prices t v (record { out = miss; held = hold + (paid - x) }) (past all) (λ q. omega arith)) ∙ p.helds v z m
+            helds = λ e v l m. elim (dec_lt t v) [
+              | yes z ↦ ap (λ (p : Price). p.held) (get_or-set_other prices t v (record { out = miss; held = hold + (paid - x) }) e (λ q. omega arith)) ∙ p.helds e v z m
               | no z ↦ let q : v ≡ t = omega arith in
-                  rw q (ap (λ (p : Price). p.held) (get_or-set_same prices t (record { out = miss; held = hold + (paid - x) }) (past all) (omega (arith, p.long, d.place))) ∙ omega (arith, k.hold-is, d.left))
+                  rw q (ap (λ (p : Price). p.held) (get_or-set_same prices t (record { out = miss; held = hold + (paid - x) }) e (omega (arith, p.long, d.place))) ∙ omega (arith, k.hold-is, d.left))
             ];
             sum = omega (arith, k.sums);
             small = omega (arith, k.sums, k.miss-top, p.small);
           }
 
 -- where the pass ends the sum is that of all items
-pub passed_all : {trace rents : List ℕ} {all : ℕ} {prices : List Price} {total paid : ℕ} → Passed trace rents all prices total paid 0
+pub passed_all : {trace rents : List ℕ} {prices : List Price} {total paid : ℕ} → Passed trace rents prices total paid 0
     → total ≡ leasts (trace_in trace) (rents_in rents)
 unfolding leasts
 passed_all p = p.sum

@@ -1,4 +1,5 @@
 // The least prices of all items in one pass from the last request to the first, by the next request of each request's item.
+// Prices are narrowed by `as`: that nothing is lost is proved, and `try_from` would make a Result that is never an Err.
 ghost use Rattle.std.specs.Prelude.{◌≡◌, cond, ℕ, ◌+◌, ◌*◌, ◌≤◌, ◌<◌, min, length, get_or, eqb};
 ghost use Rattle.std.proofs.Math.IntN.{sub_ℕ};
 ghost use Rattle.model.specs.Model.{leasts as leastsOf};
@@ -41,32 +42,40 @@ pub fn paid(rents: &[u32]) -> u64
     rents.iter().map(|rent| u64::from(*rent)).sum()
 }
 
-// The price from just before a request with its item not held, and the price with it held and the rents of all gaps up to there.
+// The price from just before a request with its item not held, and the price with it held and the rents of all gaps up to there: four
+// bytes each, so that the list of them takes half the room.
 #[derive(Clone, Copy)]
 pub struct Price {
-    pub out: u64,
-    pub held: u64,
+    pub out: u32,
+    pub held: u32,
 }
 
-// The least prices of the items, added up; `all` is the sum of all rents. The list holds the prices of each request passed.
+// The least prices of the items, added up; `all` is the sum of all rents. The list holds the prices of each request passed, and at the
+// place past the last one what is to be paid from the end on: nothing, with all rents before it.
 pub fn leasts(trace: &[u8], rents: &[u32], next: &[u16; Requests::MAX], all: u64) -> u64
     requires { Ready trace.now rents.now next.now × (all ≡ paid_to (rents_in rents.now) (length rents.now)) }
     ensures { result ≡ leastsOf (trace_in trace.now) (rents_in rents.now) }
 {
-    let past = Price { out: 0, held: all };
-    let mut prices = [past; Requests::MAX];
+    let n = trace::requests(trace);
+    let mut prices = [Price { out: 0, held: 0 }; Requests::MAX + 1];
+    prices[n] = Price {
+        out: 0,
+        held: all as u32,
+    };
     let mut total: u64 = 0;
     let mut paid = all;
-    for t in (0..trace::requests(trace)).rev() {
+    for t in (0..n).rev() {
         let before = paid - u64::from(rents[t]);
-        let after = prices.get(usize::from(next[t])).copied().unwrap_or(past);
-        let kept = after.held - before;
-        let miss = from_out(trace, t, after.out, kept);
-        let hold = from_in(trace, t, after.out, kept);
-        total = total + miss - after.out;
+        let after = prices[usize::from(next[t])];
+        let none = u64::from(after.out);
+        let held = u64::from(after.held);
+        let kept = held - before;
+        let miss = from_out(trace, t, none, kept);
+        let hold = from_in(trace, t, none, kept);
+        total = total + miss - none;
         prices[t] = Price {
-            out: miss,
-            held: hold + before,
+            out: miss as u32,
+            held: (hold + before) as u32,
         };
         paid = before;
     }

@@ -16,7 +16,8 @@ pub fn judge(trace: &[u8], plan: &[u8]) -> Result<u64, Refusal>
 {
     let totals = audit::audit(trace, plan)?;
     let mut room = [0; Requests::MAX];
-    let sides = floor::sides(trace, audit::rents(trace, plan, &mut room))?;
+    let n = audit::rents(trace, plan, &mut room);
+    let sides = floor::sides(trace, &room[..n])?;
     compared(sides, totals.total)
 }
 

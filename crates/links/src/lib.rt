@@ -52,9 +52,10 @@ impl Links {
         ensures { Filled trace.now self.old.next self.old.prev result self.new.next self.new.prev }
     {
         let header = trace::check(trace)?;
-        let n = header.requests;
-        let items = items::read(trace, n);
-        lay(&items[..n], &mut self.next, &mut self.prev);
+        let mut room = [0; Requests::MAX];
+        let items = &mut room[..header.requests];
+        items::read(trace, items);
+        lay(items, &mut self.next, &mut self.prev);
         Ok(header)
     }
 }

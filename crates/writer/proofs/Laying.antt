@@ -1,12 +1,11 @@
 -- Laws of bytes laid one run after the other. Assumes nothing.
-use mathlib.Core.Path.{◌≡◌, refl, sym, ◌∙◌}
-use Prim.Native.Nat.{ℕ, suc, ◌+◌, ◌*◌, ◌/◌, ◌≤◌, ◌<◌}
+use mathlib.Core.Path.{◌≡◌, refl, ◌∙◌}
+use Prim.Native.Nat.{ℕ, suc, ◌+◌, ◌*◌, ◌/◌, ◌<◌}
 use native.Mathlib.Nat.{div-div-eq-div-mul}
 use native.Mathlib.Omega.{arith}
 use mathlib.Core.List.{List, [], ◌∷◌, ◌++◌, append_assoc}
-use lib.ListN.{length, get_or, set, take, drop, length-append}
-use lib.Seq.{sets, sets-eq, drop-drop, length-take-le, take-suc}
-use borrow.Rule.Slice.PartMut.{put_mid}
+use lib.ListN.{length, get_or, set, take, length-append}
+use lib.Seq.{sets, length-take-le, take-suc}
 use mir.Syntax.{w32, w64}
 use Rattle.std.specs.Int.{to_le_bytes}
 use Rattle.fields.specs.Bytes.{bytes_of, bytes_of_all}
@@ -20,9 +19,12 @@ pub runs_join : (l : List ℕ) (i k : ℕ) (vs ws : List ℕ) → i + length vs 
 runs_join l i k [] ws h = let e : k ≡ i = omega arith in rw e
 runs_join l i k (a ∷ vs) ws h = runs_join (set l i a) (suc i) k vs ws (omega arith)
 
--- a part that is written over is a run
-pub part_laid : (l vs : List ℕ) (at k : ℕ) → k ≡ length vs → at + k ≤ length l → put_mid at k l vs ≡ sets l at vs
-part_laid l vs at k e h = rw (e, drop-drop) (sym (sets-eq vs l at (omega arith) ∙ append_assoc (take at l) vs (drop (at + length vs) l)))
+-- one byte more
+pub byte_more : (l bytes : List ℕ) (at i : ℕ) → i < length bytes
+    → set (sets l at (take i bytes)) (at + i) (get_or bytes i 0) ≡ sets l at (take (suc i) bytes)
+byte_more l bytes at i h =
+    runs_join l at (at + i) (take i bytes) (get_or bytes i 0 ∷ []) (omega (arith, length-take-le i bytes (omega arith)))
+    ∙ rw (take-suc bytes i 0 h)
 
 -- ---- numbers
 

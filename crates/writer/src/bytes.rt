@@ -20,12 +20,14 @@ pub fn plan(buffer: &mut [u8], cost: u64, flags: &[u8], rents: &[u32])
     lay_rents(buffer, HEAD + n, rents);
 }
 
-// Bytes, from place `at` on.
+// Bytes, from place `at` on. One by one: with `copy_from_slice` the library for C would need `memmove` from outside.
 fn lay(buffer: &mut [u8], at: usize, bytes: &[u8])
     requires { at + length bytes.now ≤ length buffer.old }
     ensures { buffer.new ≡ sets buffer.old at bytes.now }
 {
-    buffer[at..at + bytes.len()].copy_from_slice(bytes);
+    for (i, byte) in bytes.iter().enumerate() {
+        buffer[at + i] = *byte;
+    }
 }
 
 // The rents, four bytes each, from place `at` on.

@@ -5,7 +5,7 @@ use Rattle.plan.specs.PlanFile.{section_tried, flags_of}
 use Rattle.replay.specs.Replay.{replay_of}
 use Rattle.audit.proofs.Answered.{section_off, flags-off, cost-off, rents_off, audit-done}
 use Rattle.audit.proofs.audit.Goals as goal
-use Rattle.audit.proofs.audit.Goals.{In_ok-check, In_ok-totals, After-rents}
+use Rattle.audit.proofs.audit.Goals.{In_ok-check, In_ok-totals}
 
 -- where rows 1 to 12 pass
 passed : (c : In_ok-check) → section_tried c.args.trace.now c.args.plan.now ≡ passes
@@ -36,10 +36,13 @@ returns-in_err-check_rents c =
     let h = passed (goal.at.returns-in_err-check_rents c).In_ok-check in
     let p = err_from_is_err_and c.from_residual-in_err-check_rents.result c.from_residual-in_err-check_rents.ensures.1 in
     rw (p.1, p.2) (rents_off c.args.trace.now c.args.plan.now h _ (done (goal.at.returns-in_err-check_rents c).In_ok-totals) _
-    c.stated_cost.ensures c.if-stated_cost-totals.false _ _ (rw (c.rents.ensures.sound h) at c.in_err-check_rents.ensures))
+    c.stated_cost.ensures c.if-stated_cost-totals.false _ _ c.in_err-check_rents.ensures)
 
 pub returns : goal.returns
 returns c =
     let h = passed (goal.at.returns c).In_ok-check in
     audit-done c.args.trace.now c.args.plan.now h _ (done (goal.at.returns c).In_ok-totals) _ c.stated_cost.ensures
-    c.if-stated_cost-totals.false (rw (c.rents.ensures.sound h) at c.in_ok-check_rents.ensures)
+    c.if-stated_cost-totals.false c.in_ok-check_rents.ensures
+
+pub check_rents-requires : goal.check_rents-requires
+check_rents-requires c = passed (goal.at.check_rents-requires c).In_ok-check

@@ -1,50 +1,69 @@
-use mathlib.Core.Path.{◌≡◌}
-use borrow.Author.Rules.{rules}
-use lib.ListN.{get_or}
+use mathlib.Core.Path.{◌≡◌, refl, ◌∙◌}
+use Prim.Native.Nat.{◌<◌}
 use native.Mathlib.Omega.{arith}
+use mathlib.Core.List.{List}
+use lib.ListN.{length, replicate, length-set, length-replicate}
+use lib.Seq.{get_or-set_same}
+use Rattle.floor.specs.declared.pass.Price.{Price}
+use Rattle.floor.proofs.Lists.{paid_top}
 use Rattle.floor.proofs.Passed.{past, passed_start, passed_all, at_suc, Due, due, Done, done, passed-step}
 use Rattle.floor.proofs.pass.leasts.Goals as goal
-use Rattle.floor.proofs.pass.leasts.Goals.{After-unwrap_or-after, After-from_in-hold}
+use Rattle.floor.proofs.pass.leasts.Goals.{After-from-in-loop-t, After-from_in-hold}
 
--- what stands in the list at the next request
-after_is : (c : After-unwrap_or-after) → c.unwrap_or-after.result ≡ get_or c.loop-t.prices c.from-in-loop-t.result (past c.args.all)
-after_is c = search rules
-
--- what is known once it is read
-known : (c : After-unwrap_or-after) → Due c.requires.0 (at_suc c.loop-t.invariant c.loop-t-test.true) c.from.ensures c.from-in-loop-t.ensures (after_is c)
-known c = due c.requires.0 (at_suc c.loop-t.invariant c.loop-t-test.true) c.from.ensures c.from-in-loop-t.ensures (after_is c)
+-- what is known once the next request of request t's item is read
+known : (c : After-from-in-loop-t) → Due c.requires.0 (at_suc c.loop-t.invariant c.loop-t-test.true) c.from.ensures c.from-in-loop-t.ensures refl
+known c = due c.requires.0 (at_suc c.loop-t.invariant c.loop-t-test.true) c.from.ensures c.from-in-loop-t.ensures refl
 
 -- and once the request has its two prices
-priced : (c : After-from_in-hold) (a : c.unwrap_or-after.result ≡ get_or c.loop-t.prices c.from-in-loop-t.result (past c.args.all))
-    → Done c.requires.0 (at_suc c.loop-t.invariant c.loop-t-test.true) c.from.ensures c.from-in-loop-t.ensures a c.from_out-miss.ensures c.from_in-hold.ensures
-priced c a = done c.requires.0 (at_suc c.loop-t.invariant c.loop-t-test.true) c.from.ensures c.from-in-loop-t.ensures a c.from_out-miss.ensures c.from_in-hold.ensures
+priced : (c : After-from_in-hold) → Done c.requires.0 (at_suc c.loop-t.invariant c.loop-t-test.true) c.from.ensures c.from-in-loop-t.ensures refl c.from-none.ensures c.from-held.ensures c.from_out-miss.ensures c.from_in-hold.ensures
+priced c = done c.requires.0 (at_suc c.loop-t.invariant c.loop-t-test.true) c.from.ensures c.from-in-loop-t.ensures refl c.from-none.ensures c.from-held.ensures c.from_out-miss.ensures c.from_in-hold.ensures
 
 pub loop-t-init : goal.loop-t-init
 loop-t-init c =
-    rw c.requests-t.ensures.0 (passed_start c.requires.0 c.requires.1)
+    let zeros : List Price = replicate 1025 (record { out = 0; held = 0 }) in
+    let l : length zeros ≡ 1025 = length-replicate {A = Price} 1025 (record { out = 0; held = 0 }) in
+    let h : c.requests-n.result < length zeros = omega (arith, l, c.requires.0.sound.requests, c.requests-n.ensures.0) in
+    passed_start c.requires.0 c.requests-n.ensures.0 c.requires.1 (length-set zeros c.requests-n.result (past c.args.all) ∙ l)
+    (λ d. get_or-set_same zeros c.requests-n.result (past c.args.all) d h)
+
+pub bounds-prices-from : goal.bounds-prices-from
+bounds-prices-from c = (known c).next_place
 
 pub overflow_sub-kept : goal.overflow_sub-kept
-overflow_sub-kept c = (known (goal.at.overflow_sub-kept c).After-unwrap_or-after).below
+overflow_sub-kept c = rw c.from-held.ensures (known (goal.at.overflow_sub-kept c).After-from-in-loop-t).below
 
 pub from_out-miss-requires : goal.from_out-miss-requires
-from_out-miss-requires c = omega (arith, known (goal.at.from_out-miss-requires c).After-unwrap_or-after)
+from_out-miss-requires c = omega (arith, known (goal.at.from_out-miss-requires c).After-from-in-loop-t, c.from-none.ensures, c.from-held.ensures)
 
 pub from_in-hold-requires : goal.from_in-hold-requires
-from_in-hold-requires c = omega (arith, known (goal.at.from_in-hold-requires c).After-unwrap_or-after)
+from_in-hold-requires c = omega (arith, known (goal.at.from_in-hold-requires c).After-from-in-loop-t, c.from-none.ensures, c.from-held.ensures)
 
 pub overflow_add-total : goal.overflow_add-total
-overflow_add-total c = omega (arith, known (goal.at.overflow_add-total c).After-unwrap_or-after, priced (goal.at.overflow_add-total c).After-from_in-hold (after_is (goal.at.overflow_add-total c).After-unwrap_or-after))
+overflow_add-total c = omega (arith, c.from-none.ensures, known (goal.at.overflow_add-total c).After-from-in-loop-t, priced c)
 
 pub overflow_sub-total : goal.overflow_sub-total
-overflow_sub-total c = omega (arith, priced (goal.at.overflow_sub-total c).After-from_in-hold (after_is (goal.at.overflow_sub-total c).After-unwrap_or-after))
+overflow_sub-total c = omega (arith, c.from-none.ensures, priced (goal.at.overflow_sub-total c).After-from_in-hold)
 
 pub overflow_add-prices : goal.overflow_add-prices
-overflow_add-prices c = omega (arith, known (goal.at.overflow_add-prices c).After-unwrap_or-after, priced (goal.at.overflow_add-prices c).After-from_in-hold (after_is (goal.at.overflow_add-prices c).After-unwrap_or-after))
+overflow_add-prices c = omega (arith, known (goal.at.overflow_add-prices c).After-from-in-loop-t, priced (goal.at.overflow_add-prices c).After-from_in-hold)
+
+pub overflow_cast-prices : goal.overflow_cast-prices
+overflow_cast-prices c =
+    let q = paid_top c.args.rents.now 2000000 (length c.args.rents.now) c.requires.0.within in
+    omega (arith, q, c.requires.0.sound.requests, c.requires.0.count, c.requires.1)
+
+pub overflow_cast-prices-in-loop-t : goal.overflow_cast-prices-in-loop-t
+overflow_cast-prices-in-loop-t c =
+    omega (arith, known (goal.at.overflow_cast-prices-in-loop-t c).After-from-in-loop-t, priced (goal.at.overflow_cast-prices-in-loop-t c).After-from_in-hold)
+
+pub overflow_cast-prices-in-loop-t-2 : goal.overflow_cast-prices-in-loop-t-2
+overflow_cast-prices-in-loop-t-2 c =
+    omega (arith, known (goal.at.overflow_cast-prices-in-loop-t-2 c).After-from-in-loop-t, priced (goal.at.overflow_cast-prices-in-loop-t-2 c).After-from_in-hold)
 
 pub loop-t-preserved : goal.loop-t-preserved
 loop-t-preserved c =
-    passed-step c.requires.0 (at_suc c.loop-t.invariant c.loop-t-test.true) c.from.ensures c.from-in-loop-t.ensures
-    (after_is (goal.at.loop-t-preserved c).After-unwrap_or-after) c.from_out-miss.ensures c.from_in-hold.ensures
+    rw c.from-none.ensures (passed-step c.requires.0 (at_suc c.loop-t.invariant c.loop-t-test.true) c.from.ensures c.from-in-loop-t.ensures refl
+    c.from-none.ensures c.from-held.ensures c.from_out-miss.ensures c.from_in-hold.ensures)
 
 pub returns : goal.returns
 returns c =

@@ -3,4 +3,4 @@ use Rattle.floor.proofs.Passed.{Passed}
 use Rattle.floor.proofs.pass.leasts.Given as goal
 
 abbrev pub invariant-loop-t : goal.invariant-loop-t
-invariant-loop-t l = Passed l.trace l.rents l.all l.prices l.total l.paid l.t
+invariant-loop-t l = Passed l.trace l.rents l.prices l.total l.paid l.t

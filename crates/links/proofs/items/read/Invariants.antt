@@ -4,4 +4,4 @@ use Rattle.links.proofs.Readings.{Reading}
 use Rattle.links.proofs.items.read.Given as goal
 
 abbrev pub invariant-loop-t : goal.invariant-loop-t
-invariant-loop-t l = Reading l.trace l.item-items (length l.initial.item-items) l.t
+invariant-loop-t l = Reading l.trace l.items (length l.initial.items) l.t
